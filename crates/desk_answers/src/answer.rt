@@ -4,6 +4,7 @@ ghost use Rattle.std.specs.Prelude.{Some};
 ghost use Rattle.desk_answers.specs.Answer.{answer_text};
 
 use desk_words::VenueName;
+use order_limits::Over;
 use std::fmt;
 use sweep_text::LineFault;
 
@@ -30,6 +31,11 @@ pub enum Refusal {
     OtherLegs,
     /// R10: the desk takes no sweep without a reference.
     NoReference,
+    /// R11 to R15: it is over a limit of the desk. The venue is that of the leg which is to blame, if one is.
+    OverLimit {
+        venue: Option<VenueName>,
+        over: Over,
+    },
 }
 
 /// The answer to a line, in one line.
@@ -63,6 +69,17 @@ impl fmt::Display for Refusal {
             Refusal::WrongBook => write!(f, "R08: the book isn't the desk's"),
             Refusal::OtherLegs => write!(f, "R09: its reference is another sweep's"),
             Refusal::NoReference => write!(f, "R10: it has no reference"),
+            Refusal::OverLimit {
+                venue: Some(venue),
+                over,
+            } => {
+                let code = over.code();
+                write!(f, "{code}: {venue} {over}")
+            }
+            Refusal::OverLimit { venue: None, over } => {
+                let code = over.code();
+                write!(f, "{code}: {over}")
+            }
         }
     }
 }

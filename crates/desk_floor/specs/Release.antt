@@ -1,10 +1,14 @@
 -- What a sweep is answered.
-use Rattle.std.specs.Prelude.{◌≡◌, ◌≢◌, ◌⊎◌, ⊤, ℕ, Bool, true, false, List, [], ◌∷◌, ◌++◌, Option, Some, None, slice_get, option_map, Result, Ok, Err, IsSomeAnd}
+use Rattle.std.specs.Prelude.{◌≡◌, ◌≢◌, ◌⊎◌, ⊤, ℕ, Bool, true, false, List, [], ◌∷◌, ◌++◌, Option, Some, None, slice_get, option_and_then, option_map, Result, Ok, Err, IsSomeAnd, OnOk}
 use Rattle.leg.specs.declared.sweep.Routed.{Routed}
 use Rattle.share_ledger.specs.Entries.{sweep_shares}
 use Rattle.exec_collector.specs.declared.placed_sweep.PlacedSweep.{PlacedSweep}
 use Rattle.exec_collector.specs.Seats.{Seat}
-use Rattle.release_lock.specs.Locked.{Replays, Releases}
+use Rattle.order_limits.specs.declared.over.Excess.{Excess}
+use Rattle.order_limits.specs.Limits.{LimitParts}
+use Rattle.release_lock.specs.declared.declined.Declined.{Declined}
+use Rattle.release_lock.specs.declared.declined.Declined.TheVariants.{Over, Fault}
+use Rattle.release_lock.specs.Locked.{IsPlacedWithin, Replays, ReleasesWithin}
 use Rattle.release_lock.specs.Seats.{placing}
 use Rattle.sweep_refs.specs.Placed.{AreDistinct, Entry, placed_under}
 use Rattle.sweep_refs.specs.declared.placement.Placement.{Placement}
@@ -34,16 +38,27 @@ refusal_of names fault.SweepsSpent = refusal.SweepsSpent
 refusal_of names fault.OutOfMemory = refusal.OutOfMemory
 refusal_of names fault.WrongBook = refusal.WrongBook
 
--- the answer to a sweep that was released, or refused
-abbrev pub answer_of : List (List ℕ) → Result Receipt ReleaseFault → Answer
-answer_of names (Ok receipt) = Placed receipt.number receipt.shares
-answer_of names (Err why) = Refused (refusal_of names why)
+-- that a sweep is over a limit, with the name of the venue that is to blame, if one is
+abbrev pub excess_refusal : List (List ℕ) → Excess → Refusal
+excess_refusal names excess = refusal.OverLimit (option_and_then (slice_get names) excess.venue) excess.over
 
--- a sweep of these legs is answered with what became of it at a desk that replays from its own history
-abbrev pub IsReleased : List (List ℕ) → List Routed → Answer → Type 0
-IsReleased names legs answer =
-    (before : KeptDesk) × (after : KeptDesk) × (done : Result Receipt ReleaseFault)
-    × Replays before × Replays after × Releases legs before done after × (answer ≡ answer_of names done)
+-- why a sweep is declined
+abbrev pub declined_refusal : List (List ℕ) → Declined → Refusal
+declined_refusal names (Over excess) = excess_refusal names excess
+declined_refusal names (Fault why) = refusal_of names why
+
+-- the answer to a sweep that was released, or declined
+abbrev pub answer_of : List (List ℕ) → Result Receipt Declined → Answer
+answer_of names (Ok receipt) = Placed receipt.number receipt.shares
+answer_of names (Err why) = Refused (declined_refusal names why)
+
+-- a sweep of these legs is answered with what became of it at a desk that replays from its own history: it is judged by
+-- the limits, if there are any, before anything is placed, and what is placed is within them
+abbrev pub IsReleased : Option LimitParts → List (List ℕ) → List Routed → Answer → Type 0
+IsReleased limits names legs answer =
+    (before : KeptDesk) × (after : KeptDesk) × (done : Result Receipt Declined)
+    × Replays before × Replays after × ReleasesWithin limits legs before done after
+    × OnOk done (IsPlacedWithin limits legs before after) × (answer ≡ answer_of names done)
 
 -- what a placed sweep is noted as
 abbrev pub placement : ℕ → ℕ → List Routed → Placement
@@ -62,9 +77,10 @@ AnswersKnown (Some known) legs answer = IsSomeAnd answer (IsKnown known legs)
 AnswersKnown None legs answer = answer ≡ None
 
 -- what is answered under a reference: as it is known, or what becomes of the sweep. Out of memory, nothing does
-abbrev pub IsJudged : List (List ℕ) → Option Placement → List Routed → Answer → Type 0
-IsJudged names (Some known) legs answer = IsKnown known legs answer
-IsJudged names None legs answer = IsReleased names legs answer ⊎ (answer ≡ Refused refusal.OutOfMemory)
+abbrev pub IsJudged : Option LimitParts → List (List ℕ) → Option Placement → List Routed → Answer → Type 0
+IsJudged limits names (Some known) legs answer = IsKnown known legs answer
+IsJudged limits names None legs answer =
+    IsReleased limits names legs answer ⊎ (answer ≡ Refused refusal.OutOfMemory)
 
 -- what is placed under references, once a sweep is answered: one entry more where it is placed
 abbrev pub noted : List Entry → List ℕ → List Routed → Answer → List Entry
@@ -72,22 +88,22 @@ noted entries reference legs (Placed sweep shares) = entries ++ (reference, plac
 noted entries reference legs answer = entries
 
 -- a sweep under a reference is answered so where these were placed before, and these are placed from then on
-pub record AnswersOnce (names : List (List ℕ)) (before : List Entry) (reference : List ℕ) (legs : List Routed)
-    (answer : Answer) (after : List Entry) : Type 0 where
+pub record AnswersOnce (limits : Option LimitParts) (names : List (List ℕ)) (before : List Entry) (reference : List ℕ)
+    (legs : List Routed) (answer : Answer) (after : List Entry) : Type 0 where
   pub distinct : AreDistinct before
-  pub judged : IsJudged names (placed_under before reference) legs answer
+  pub judged : IsJudged limits names (placed_under before reference) legs answer
   pub after_is : after ≡ noted before reference legs answer
 
 -- a sweep is answered so, at a desk that may want a reference of each
-abbrev pub IsAnsweredUnder : List (List ℕ) → Bool → Option (List ℕ) → List Routed → Answer → Type 0
-IsAnsweredUnder names true None legs answer = answer ≡ Refused refusal.NoReference
-IsAnsweredUnder names false None legs answer = IsReleased names legs answer
-IsAnsweredUnder names wants (Some reference) legs answer =
-    (before : List Entry) × (after : List Entry) × AnswersOnce names before reference legs answer after
+abbrev pub IsAnsweredUnder : Option LimitParts → List (List ℕ) → Bool → Option (List ℕ) → List Routed → Answer → Type 0
+IsAnsweredUnder limits names true None legs answer = answer ≡ Refused refusal.NoReference
+IsAnsweredUnder limits names false None legs answer = IsReleased limits names legs answer
+IsAnsweredUnder limits names wants (Some reference) legs answer =
+    (before : List Entry) × (after : List Entry) × AnswersOnce limits names before reference legs answer after
 
-abbrev pub IsAnswered : List (List ℕ) → Bool → Submission → Answer → Type 0
-IsAnswered names wants submission answer =
-    IsAnsweredUnder names wants submission.reference submission.sweep.legs answer
+abbrev pub IsAnswered : Option LimitParts → List (List ℕ) → Bool → Submission → Answer → Type 0
+IsAnswered limits names wants submission answer =
+    IsAnsweredUnder limits names wants submission.reference submission.sweep.legs answer
 
 -- nothing is placed under a reference, if there is one
 abbrev pub IsFree : Option (List ℕ) → Type 0

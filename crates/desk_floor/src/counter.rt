@@ -1,6 +1,6 @@
 //! The seat on which the clients of a day's page count.
 
-ghost use Rattle.std.specs.Prelude.{◌≡◌, IfErr, IfOk};
+ghost use Rattle.std.specs.Prelude.{◌≡◌, Some, IfErr, IfOk};
 ghost use Rattle.desk_floor.specs.Release.{IsAnswered, placed_after, told};
 
 use crate::floor::Floor;
@@ -45,7 +45,8 @@ impl<L: Run> Counter<L> {
         J: Telling,
         R: Wait + Clock,
         C: clock::Clock + Drop,
-        ensures answer { IfOk result (IsAnswered floor.now.names.items floor.now.manner.wants_refs submission) }
+        ensures answer { IfOk result (IsAnswered (Some floor.now.limits) floor.now.names.items
+            floor.now.manner.wants_refs submission) }
         ensures closing { IfErr result (λ shown. shown.of ≡ floor.now.signals.closing.id) }
         ensures placed { self.new.seat.placed ≡ placed_after self.old.seat.placed (told result) submission.sweep.legs }
     {

@@ -25,6 +25,7 @@ use exec_collector::{Accounts, Collector};
 use json_lines::Line;
 use kept_link::{Telling, Untold};
 use leg::VenueId;
+use order_limits::OrderLimits;
 use release_lock::{CallerSeat, ReleaseLock, Run};
 use session_worker::Stop;
 use share_ledger::Book;
@@ -53,6 +54,8 @@ pub struct Floor<L: Run, M: Accounts, W: Write + Drop, J: Telling = Untold> {
     pub collector: Collector<M>,
     /// On which the clients of the page count; none where no page is served.
     pub shared: Option<Mutex<Counter<L>>>,
+    /// What its orders may have at most. Nothing changes them.
+    pub limits: OrderLimits,
     /// Is held while a sweep is handed in and answered.
     pub turn: Mutex<()>,
     /// The sweeps that were placed under references. Is held while a sweep under one is handed in.
@@ -239,6 +242,7 @@ impl<L: Run, M: Accounts, W: Write + Drop, J: Telling> Floor<L, M, W, J> {
             lock,
             collector,
             shared,
+            limits: _,
             turn: _,
             refs: _,
             journals: _,

@@ -1,8 +1,9 @@
 //! A sweep is handed in, and answered.
 
-ghost use Rattle.std.specs.Prelude.{◌≡◌, ◌≢◌, ◌+◌, ◌⊎◌, None, slice_get, IfErr, IfNone, IfOk, IfSome};
-ghost use Rattle.desk_floor.specs.Release.{IsAnswered, IsAnsweredUnder, IsFree, IsReleased, IsUnwritten, refusal_of};
-ghost use Rattle.desk_floor.specs.Release.{answer_of, placed_after, placed_shares, told};
+ghost use Rattle.std.specs.Prelude.{◌≡◌, ◌≢◌, ◌+◌, ◌⊎◌, None, Some, slice_get, option_map, IfErr, IfNone, IfOk, IfSome};
+ghost use Rattle.desk_floor.specs.Release.{IsAnswered, IsAnsweredUnder, IsFree, IsReleased, IsUnwritten, answer_of};
+ghost use Rattle.desk_floor.specs.Release.{declined_refusal, excess_refusal, placed_after, placed_shares, refusal_of};
+ghost use Rattle.desk_floor.specs.Release.{told};
 
 use crate::asking::asked_now;
 use crate::floor::Floor;
@@ -13,7 +14,8 @@ use desk_words::VenueName;
 use exec_collector::Accounts;
 use kept_link::Telling;
 use leg::{Routed, Sweep, VenueId};
-use release_lock::{Asked, CallerSeat, Run};
+use order_limits::Excess;
+use release_lock::{Asked, CallerSeat, Declined, Run};
 use std::io::Write;
 use std::sync::Wait;
 use std::time::Clock;
@@ -53,8 +55,30 @@ fn refusal_of(names: &[VenueName], fault: ReleaseFault) -> Refusal
     }
 }
 
-/// The answer to a sweep that was released, or refused.
-fn answer_of(names: &[VenueName], done: Result<Receipt, ReleaseFault>) -> Answer
+/// That a sweep is over a limit, with the name of the venue that is to blame, if one is.
+fn excess_refusal(names: &[VenueName], excess: Excess) -> Refusal
+    ensures { result ≡ excess_refusal names.now excess }
+{
+    let Excess { venue, over } = excess;
+    let venue = match venue {
+        Some(venue) => name_of(names, venue),
+        None => None,
+    };
+    Refusal::OverLimit { venue, over }
+}
+
+/// Why a sweep is declined.
+fn declined_refusal(names: &[VenueName], why: Declined) -> Refusal
+    ensures { result ≡ declined_refusal names.now why }
+{
+    match why {
+        Declined::Over(excess) => excess_refusal(names, excess),
+        Declined::Fault(fault) => refusal_of(names, fault),
+    }
+}
+
+/// The answer to a sweep that was released, or declined.
+fn answer_of(names: &[VenueName], done: Result<Receipt, Declined>) -> Answer
     ensures { result ≡ answer_of names.now done }
 {
     match done {
@@ -62,7 +86,7 @@ fn answer_of(names: &[VenueName], done: Result<Receipt, ReleaseFault>) -> Answer
             sweep: receipt.number,
             shares: receipt.shares,
         },
-        Err(fault) => Answer::Refused(refusal_of(names, fault)),
+        Err(why) => Answer::Refused(declined_refusal(names, why)),
     }
 }
 
@@ -77,11 +101,11 @@ fn venues_of(legs: &[Routed]) -> [bool; VENUES] {
 
 impl<L: Run, M: Accounts, W: Write + Drop, J: Telling> Floor<L, M, W, J> {
     /// Hands a sweep in that this line asks for, for a caller who counts on this seat, and answers with what became of
-    /// it; or shows that the day is closing. The seat gains the sweep under the number that is answered, and else
-    /// nothing. Under a reference a sweep is placed at most once: these legs again are answered as the first time, also
-    /// where the day is closing, and others are refused. The line and its answer stand behind one another in the log.
-    /// It may wait for the locks; once those of the desk and the book are given up it wakes the workers of the sweep's
-    /// venues.
+    /// it; or shows that the day is closing. A sweep is judged by the day's limits before anything is placed. The seat
+    /// gains the sweep under the number that is answered, and else nothing. Under a reference a sweep is placed at most
+    /// once: these legs again are answered as the first time, also where the day is closing, and others are refused.
+    /// The line and its answer stand behind one another in the log. It may wait for the locks; once those of the desk
+    /// and the book are given up it wakes the workers of the sweep's venues.
     pub fn hand_in<'a, R: Wait + Clock, C: clock::Clock + Drop>(
         &self,
         rt: &'a R,
@@ -90,7 +114,8 @@ impl<L: Run, M: Accounts, W: Write + Drop, J: Telling> Floor<L, M, W, J> {
         line: &[u8],
         submission: Submission,
     ) -> Result<Answer, Closing<'_>>
-        ensures answer { IfOk result (IsAnswered self.now.names.items self.now.manner.wants_refs submission) }
+        ensures answer { IfOk result (IsAnswered (Some self.now.limits) self.now.names.items
+            self.now.manner.wants_refs submission) }
         ensures closing { IfErr result (λ shown. shown.of ≡ self.now.signals.closing.id) }
         ensures parts { seat.new.parts ≡ seat.old.parts }
         ensures counted { seat.new.shares
@@ -101,7 +126,7 @@ impl<L: Run, M: Accounts, W: Write + Drop, J: Telling> Floor<L, M, W, J> {
         log.taken(line);
         let answered = match self.signals.closing() {
             Some(shown) => self.repeated(rt, &submission).ok_or(shown),
-            None => Ok(self.place(rt, seat, &asked_now(rt, line), submission)),
+            None => Ok(self.place(rt, seat, &asked_now(rt, line, &self.limits), submission)),
         };
         match &answered {
             Ok(answer) => self.note_answer(rt, log, answer),
@@ -112,7 +137,8 @@ impl<L: Run, M: Accounts, W: Write + Drop, J: Telling> Floor<L, M, W, J> {
 
     /// The answer to a sweep that was placed before, under the reference that it has.
     fn repeated(&self, rt: &impl Wait, submission: &Submission) -> Option<Answer>
-        ensures answer { IfSome result (IsAnswered self.now.names.items self.now.manner.wants_refs submission.now) }
+        ensures answer { IfSome result (IsAnswered (Some self.now.limits) self.now.names.items
+            self.now.manner.wants_refs submission.now) }
         ensures nothing { IfSome result (λ answer. placed_shares answer submission.now.sweep.legs ≡ 0) }
         ensures none { IfSome result (λ answer. (placed : _)
             → placed_after placed answer submission.now.sweep.legs ≡ placed) }
@@ -132,7 +158,8 @@ impl<L: Run, M: Accounts, W: Write + Drop, J: Telling> Floor<L, M, W, J> {
         asked: &Asked<'_>,
         submission: Submission,
     ) -> Answer
-        ensures answer { IsAnswered self.now.names.items self.now.manner.wants_refs submission result }
+        ensures answer { IsAnswered (option_map (λ l. l.now) asked.now.limits) self.now.names.items
+            self.now.manner.wants_refs submission result }
         ensures parts { seat.new.parts ≡ seat.old.parts }
         ensures counted { seat.new.shares ≡ seat.old.shares + placed_shares result submission.sweep.legs }
         ensures placed { seat.new.placed ≡ placed_after seat.old.placed result submission.sweep.legs }
@@ -155,7 +182,8 @@ impl<L: Run, M: Accounts, W: Write + Drop, J: Telling> Floor<L, M, W, J> {
         asked: &Asked<'_>,
         sweep: Sweep,
     ) -> Answer
-        ensures answer { IsAnsweredUnder self.now.names.items self.now.manner.wants_refs None sweep.legs result }
+        ensures answer { IsAnsweredUnder (option_map (λ l. l.now) asked.now.limits) self.now.names.items
+            self.now.manner.wants_refs None sweep.legs result }
         ensures parts { seat.new.parts ≡ seat.old.parts }
         ensures counted { seat.new.shares ≡ seat.old.shares + placed_shares result sweep.legs }
         ensures placed { seat.new.placed ≡ placed_after seat.old.placed result sweep.legs }
@@ -188,7 +216,7 @@ impl<L: Run, M: Accounts, W: Write + Drop, J: Telling> Floor<L, M, W, J> {
         submission: Submission,
     ) -> Answer
         ensures { result ≢ Answer.Closing
-            → IsAnswered self.now.names.items self.now.manner.wants_refs submission result }
+            → IsAnswered (Some self.now.limits) self.now.names.items self.now.manner.wants_refs submission result }
     {
         match &self.shared {
             Some(counter) => match counter.lock(rt).hand_in(rt, self, log, line, submission) {
@@ -207,8 +235,8 @@ impl<L: Run, M: Accounts, W: Write + Drop, J: Telling> Floor<L, M, W, J> {
         log: &mut LineLog<'a, R, C>,
         submission: &Submission,
     ) -> Answer
-        ensures { IsAnswered self.now.names.items self.now.manner.wants_refs submission.now result
-            ⊎ IsUnwritten submission.now result }
+        ensures { IsAnswered (Some self.now.limits) self.now.names.items self.now.manner.wants_refs submission.now
+            result ⊎ IsUnwritten submission.now result }
     {
         let _turn = self.turn.lock(rt);
         log.taken(b"");
@@ -228,7 +256,7 @@ impl<L: Run, M: Accounts, W: Write + Drop, J: Telling> Floor<L, M, W, J> {
         asked: &Asked<'_>,
         sweep: Sweep,
     ) -> Answer
-        ensures answer { IsReleased self.now.names.items sweep.legs result }
+        ensures answer { IsReleased (option_map (λ l. l.now) asked.now.limits) self.now.names.items sweep.legs result }
         ensures parts { seat.new.parts ≡ seat.old.parts }
         ensures counted { seat.new.shares ≡ seat.old.shares + placed_shares result sweep.legs }
         ensures placed { seat.new.placed ≡ placed_after seat.old.placed result sweep.legs }

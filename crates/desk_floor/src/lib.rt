@@ -2,12 +2,13 @@
 //! count of what was placed, and the signals by which the day closes.
 //!
 //! Promises:
-//! - A sweep that is handed in is answered with what the desk and the book did, under the name of the venue that is to
-//!   blame; or it is shown that the day is closing, by what only its own flag gives (`Closing`), as a client gets it
-//!   that has the day closed (`Floor::ask_to_close`). The caller's seat keeps its parts. Where the sweep is placed, the
-//!   seat gains it, once, under the number that is answered, and its shares; else it gains nothing (`Floor::hand_in`).
-//!   The clients of the page count on a seat of their own, which has one part of the run whenever its lock is free
-//!   (`Counter`).
+//! - A sweep that is handed in is judged by the day's limits, and answered with what the desk and the book did, under
+//!   the name of the venue that is to blame: with a limit exactly where it is over one, and what is placed is within
+//!   each (`IsReleased`). Or it is shown that the day is closing, by what only its own flag gives (`Closing`), as a
+//!   client gets it that has the day closed (`Floor::ask_to_close`). The caller's seat keeps its parts. Where the sweep
+//!   is placed, the seat gains it, once, under the number that is answered, and its shares; else it gains nothing
+//!   (`Floor::hand_in`). The clients of the page count on a seat of their own, which has one part of the run whenever
+//!   its lock is free (`Counter`).
 //! - Under a reference a sweep is placed at most once. No two of the sweeps that were placed under references have one
 //!   reference; what is answered to a known one is the number and the shares that were placed under it, for the same
 //!   legs, and then nothing is placed. Other legs are refused, and out of memory nothing is placed. Where a sweep is

@@ -129,7 +129,7 @@ impl Refs {
         sweep: Sweep,
     ) -> Answer
         requires { placed_under self.old.book.placed reference ≡ None }
-        ensures answer { IsReleased floor.now.names.items sweep.legs result
+        ensures answer { IsReleased (option_map (λ l. l.now) asked.now.limits) floor.now.names.items sweep.legs result
             ⊎ (result ≡ Answer.Refused Refusal.OutOfMemory) }
         ensures after { self.new.book.placed ≡ noted self.old.book.placed reference sweep.legs result }
         ensures parts { seat.new.parts ≡ seat.old.parts }
@@ -171,8 +171,8 @@ impl Refs {
         reference: SweepRef,
         sweep: Sweep,
     ) -> Answer
-        ensures once { AnswersOnce floor.now.names.items self.old.book.placed reference sweep.legs result
-            self.new.book.placed }
+        ensures once { AnswersOnce (option_map (λ l. l.now) asked.now.limits) floor.now.names.items
+            self.old.book.placed reference sweep.legs result self.new.book.placed }
         ensures parts { seat.new.parts ≡ seat.old.parts }
         ensures counted { seat.new.shares ≡ seat.old.shares + placed_shares result sweep.legs }
         ensures placed { seat.new.placed ≡ placed_after seat.old.placed result sweep.legs }

@@ -3,6 +3,8 @@
 ghost use Rattle.std.specs.Prelude.{◌≡◌};
 
 use desk_answers::{Answer, Refusal};
+use desk_words::VenueName;
+use order_limits::Over;
 use std::alloc::{AllocError, Global};
 use std::collections::VecDeque;
 use std::sync::{Mutex, Wait};
@@ -23,6 +25,11 @@ pub struct RefusedCounts {
     pub wrong_book: u64,
     pub other_legs: u64,
     pub no_reference: u64,
+    pub leg_shares: u64,
+    pub leg_dollars: u64,
+    pub sweep_dollars: u64,
+    pub day_dollars: u64,
+    pub other_symbol: u64,
     /// Since the day was closing.
     pub closing: u64,
 }
@@ -52,6 +59,14 @@ pub struct Refusals {
     kept: Mutex<Kept>,
 }
 
+/// The name of the same venue once more.
+fn copied(venue: &Option<VenueName>) -> Option<VenueName>
+    ensures { result ≡ venue.now }
+{
+    let venue = venue.as_ref()?;
+    Some(venue.clone().unwrap())
+}
+
 /// The same refusal once more.
 fn copy_of(refusal: &Refusal) -> Refusal
     ensures { result ≡ refusal.now }
@@ -67,6 +82,10 @@ fn copy_of(refusal: &Refusal) -> Refusal
         Refusal::WrongBook => Refusal::WrongBook,
         Refusal::OtherLegs => Refusal::OtherLegs,
         Refusal::NoReference => Refusal::NoReference,
+        Refusal::OverLimit { venue, over } => Refusal::OverLimit {
+            venue: copied(venue),
+            over: over.copied(),
+        },
     }
 }
 
@@ -84,7 +103,23 @@ impl RefusedCounts {
             wrong_book: 0,
             other_legs: 0,
             no_reference: 0,
+            leg_shares: 0,
+            leg_dollars: 0,
+            sweep_dollars: 0,
+            day_dollars: 0,
+            other_symbol: 0,
             closing: 0,
+        }
+    }
+
+    /// The count of the limit that a sweep is over.
+    fn count_over(&mut self, over: &Over) -> &mut u64 {
+        match over {
+            Over::LegShares { .. } => &mut self.leg_shares,
+            Over::LegDollars { .. } => &mut self.leg_dollars,
+            Over::SweepDollars { .. } => &mut self.sweep_dollars,
+            Over::DayDollars { .. } => &mut self.day_dollars,
+            Over::OtherSymbol { .. } => &mut self.other_symbol,
         }
     }
 
@@ -101,6 +136,7 @@ impl RefusedCounts {
             Some(Refusal::WrongBook) => &mut self.wrong_book,
             Some(Refusal::OtherLegs) => &mut self.other_legs,
             Some(Refusal::NoReference) => &mut self.no_reference,
+            Some(Refusal::OverLimit { over, .. }) => self.count_over(over),
             None => &mut self.closing,
         }
     }

@@ -48,14 +48,22 @@ unfoldable pub refused_desk : RefusalCounts → List ℕ
 refused_desk counts =
     refused_sample (codes "R06") counts.sweeps_spent ++ refused_sample (codes "R07") counts.out_of_memory
     ++ refused_sample (codes "R08") counts.wrong_book ++ refused_sample (codes "R09") counts.other_legs
-    ++ refused_sample (codes "R10") counts.no_reference ++ refused_sample (codes "closing") counts.closing
+    ++ refused_sample (codes "R10") counts.no_reference
+
+-- how many sweeps were refused for a limit
+unfoldable pub refused_limits : RefusalCounts → List ℕ
+refused_limits counts =
+    refused_sample (codes "R11") counts.leg_shares ++ refused_sample (codes "R12") counts.leg_dollars
+    ++ refused_sample (codes "R13") counts.sweep_dollars ++ refused_sample (codes "R14") counts.day_dollars
+    ++ refused_sample (codes "R15") counts.other_symbol
 
 -- how many sweeps were refused, by their codes
 unfoldable pub refusals_text : RefusalCounts → List ℕ
 refusals_text counts =
     metric_head (codes "dispatch_sweeps_refused_total") (codes "Sweeps that were refused, by the answer's code.")
     (codes "counter")
-    ++ refused_legs counts ++ refused_desk counts
+    ++ refused_legs counts ++ refused_desk counts ++ refused_limits counts
+    ++ refused_sample (codes "closing") counts.closing
 
 -- the shares of all sweeps that were placed
 unfoldable pub placed_text : ℕ → List ℕ

@@ -2,7 +2,8 @@
 
 ghost use Rattle.std.specs.Prelude.{◌≡◌, [], ◌++◌, IfOk, OnOk, codes, string_bytes};
 ghost use Rattle.desk_http.specs.Metrics.{begun_text, build_text, metrics_text, parts_text, placed_text, refusals_text};
-ghost use Rattle.desk_http.specs.Metrics.{refused_desk, refused_legs, refused_sample, sample, sweeps_text};
+ghost use Rattle.desk_http.specs.Metrics.{refused_desk, refused_legs, refused_limits, refused_sample, sample};
+ghost use Rattle.desk_http.specs.Metrics.{sweeps_text};
 
 use crate::day_sums::DaySums;
 use crate::metric_text::{Seconds, write_head};
@@ -79,8 +80,19 @@ fn write_refused_desk(text: &mut String, counts: &RefusalCounts) -> Result<(), A
     write_refused(text, "R07", counts.out_of_memory)?;
     write_refused(text, "R08", counts.wrong_book)?;
     write_refused(text, "R09", counts.other_legs)?;
-    write_refused(text, "R10", counts.no_reference)?;
-    write_refused(text, "closing", counts.closing)
+    write_refused(text, "R10", counts.no_reference)
+}
+
+/// Appends how many sweeps were refused for a limit.
+#[tactic(auto, unfolding(crate::specs::Metrics::refused_limits))]
+fn write_refused_limits(text: &mut String, counts: &RefusalCounts) -> Result<(), AllocError>
+    ensures { OnOk result (string_bytes text.new ≡ string_bytes text.old ++ refused_limits counts.now) }
+{
+    write_refused(text, "R11", counts.leg_shares)?;
+    write_refused(text, "R12", counts.leg_dollars)?;
+    write_refused(text, "R13", counts.sweep_dollars)?;
+    write_refused(text, "R14", counts.day_dollars)?;
+    write_refused(text, "R15", counts.other_symbol)
 }
 
 /// Appends how many sweeps were refused, by their codes.
@@ -90,7 +102,9 @@ fn write_refusals(text: &mut String, counts: &RefusalCounts) -> Result<(), Alloc
     let words = "Sweeps that were refused, by the answer's code.";
     write_head(text, "dispatch_sweeps_refused_total", words, "counter")?;
     write_refused_legs(text, counts)?;
-    write_refused_desk(text, counts)
+    write_refused_desk(text, counts)?;
+    write_refused_limits(text, counts)?;
+    write_refused(text, "closing", counts.closing)
 }
 
 /// Appends the shares of all sweeps that were placed.

@@ -14,5 +14,10 @@ pub struct RefusalCounts {
     pub wrong_book: u64,
     pub other_legs: u64,
     pub no_reference: u64,
+    pub leg_shares: u64,
+    pub leg_dollars: u64,
+    pub sweep_dollars: u64,
+    pub day_dollars: u64,
+    pub other_symbol: u64,
     pub closing: u64,
 }

@@ -1,9 +1,15 @@
 -- What a sweep that is handed in is answered, in JSON.
-use Rattle.std.specs.Prelude.{ℕ, List, ◌++◌, codes, decimal}
+use Rattle.std.specs.Prelude.{ℕ, List, ◌++◌, Option, Some, None, codes, decimal}
 use Rattle.desk_answers.specs.declared.answer.Refusal.{Refusal}
-use Rattle.desk_answers.specs.declared.answer.Refusal.TheVariants.{NoLegs, TooManyLegs, UnknownVenue, GateDown, BacklogFull, SweepsSpent, OutOfMemory, WrongBook, OtherLegs, NoReference}
+use Rattle.desk_answers.specs.declared.answer.Refusal.TheVariants.{NoLegs, TooManyLegs, UnknownVenue, GateDown, BacklogFull, SweepsSpent, OutOfMemory, WrongBook, OtherLegs, NoReference, OverLimit}
+use Rattle.order_limits.specs.Over.{over_code, over_text}
 use Rattle.desk_json.specs.declared.outcome.Outcome.{Outcome}
 use Rattle.desk_json.specs.declared.outcome.Outcome.TheVariants.{Placed, Again, Refused, Closing}
+
+-- the end of a refusal, with the venue that is to blame, if one is
+abbrev pub venue_json : Option (List ℕ) → List ℕ
+venue_json None = codes "\"}"
+venue_json (Some venue) = codes "\",\"venue\":\"" ++ venue ++ codes "\"}"
 
 -- why a sweep isn't placed; a venue that is to blame is named
 abbrev pub refusal_json : Refusal → List ℕ
@@ -19,6 +25,8 @@ refusal_json OutOfMemory = codes "{\"refused\":\"R07\",\"text\":\"out of memory\
 refusal_json WrongBook = codes "{\"refused\":\"R08\",\"text\":\"the book isn't the desk's\"}"
 refusal_json OtherLegs = codes "{\"refused\":\"R09\",\"text\":\"its reference is another sweep's\"}"
 refusal_json NoReference = codes "{\"refused\":\"R10\",\"text\":\"it has no reference\"}"
+refusal_json (OverLimit venue over) =
+    codes "{\"refused\":\"" ++ over_code over ++ codes "\",\"text\":\"" ++ over_text over ++ venue_json venue
 
 -- the refusal of a day that is closing
 abbrev pub closing_json : List ℕ

@@ -65,6 +65,19 @@ pub fn refusal_json(alloc: Global, refusal: &Refusal) -> Result<String, AllocErr
             alloc,
             r#"{"refused":"R10","text":"it has no reference"}"#,
         ),
+        Refusal::OverLimit {
+            venue: Some(venue),
+            over,
+        } => {
+            let code = over.code();
+            format!(in alloc;
+                "{{\"refused\":\"{code}\",\"text\":\"{over}\",\"venue\":\"{venue}\"}}"
+            )
+        }
+        Refusal::OverLimit { venue: None, over } => {
+            let code = over.code();
+            format!(in alloc; "{{\"refused\":\"{code}\",\"text\":\"{over}\"}}")
+        }
     }
 }
 

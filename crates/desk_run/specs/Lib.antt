@@ -1,6 +1,7 @@
 pub mod Opening
 pub mod Audited
 pub mod Doubts
+pub mod Limiting
 pub mod Seats
 pub mod Told
 pub mod Unbooked

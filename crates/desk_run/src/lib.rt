@@ -32,6 +32,7 @@ mod doubts;
 mod ending;
 mod followers;
 mod going_on;
+mod limiting;
 mod opening;
 mod pages;
 mod running;

@@ -22,6 +22,7 @@ use desk_venues::{
 };
 use exec_collector::{Accounts, BlankBook, Collector, WorkerSeat};
 use kept_link::{Telling, Untold};
+use order_limits::OrderLimits;
 use readiness::Wakeup;
 use release_lock::{BlankDesk, CallerSeat, LockedDesk, OpenedDesk, ReleaseLock, Run, VenueDrain};
 use session_worker::{Start, Stop};
@@ -38,6 +39,8 @@ use venue_queue::{Drain, Feed};
 #[derive(Drop)]
 pub struct Means<'a, W: Write + Drop> {
     pub manner: Manner,
+    /// What its orders may have at most.
+    pub limits: OrderLimits,
     /// The folder of its logs, if it keeps any.
     pub folder: Option<LogFolder<'a>>,
     pub voice: Voice<W>,
@@ -175,7 +178,8 @@ pub struct OpenDay<'a, L: Run, M: Accounts, R: Net + Wait + Clock, W: Write + Dr
 }
 
 /// Opens the day of these venues, that was begun: each venue with its worker, which begins as is said at its place; and
-/// the seat of its callers. The desk and each worker tell their journals. No thread runs, and none has dialled.
+/// the seat of its callers. The desk and each worker tell their journals, and sweeps are judged by the limits given. No
+/// thread runs, and none has dialled.
 pub fn open_day<'a, L, M, R, W, J>(
     rt: &'a R,
     alloc: Global,
@@ -200,6 +204,7 @@ where
     ensures starts { IfOk result (λ day. day.cast.workers.items
         ≡ workers_from venues.now begun.starts.items (map J.told past.venues.items)) }
     ensures names { IfOk result (λ day. day.floor.names.items ≡ map (λ v. v.name) venues.now) }
+    ensures limits { IfOk result (λ day. day.floor.limits ≡ means.limits) }
     ensures seat { IfOk result (λ day. (day.seat.shares ≡ begun.seat.shares)
         × (day.seat.parts + shared_parts day.floor.shared ≡ 1024)) }
     ensures page { IfOk result (λ day. means.entry.servers.items ≡ [] → day.floor.shared ≡ None) }
@@ -207,6 +212,7 @@ where
 {
     let Means {
         manner,
+        limits,
         folder,
         voice,
         servers,
@@ -251,6 +257,7 @@ where
         lock: ReleaseLock::of_locked(alloc, desk.noting_in(journal))?,
         collector,
         shared,
+        limits,
         turn: Mutex::new(()),
         refs: Mutex::new(refs),
         journals: watched,

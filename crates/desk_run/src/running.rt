@@ -16,6 +16,7 @@ ghost use Rattle.desk_run.specs.Told.{IsToldDay, IsToldFrom, IsToldOver};
 use crate::DeskDay;
 use crate::closing::close_day;
 use crate::going_on::{open_files, past_of, restored};
+use crate::limiting::day_limits;
 use crate::opening::{BegunDay, Means, OpenDay, Past, add_taker, begin_day, open_day};
 use crate::pages::open_pages;
 use clock::Clock;
@@ -226,6 +227,7 @@ where
     } = options;
     let means = Means {
         manner,
+        limits: day_limits(alloc, config)?,
         folder: folder.map(|path| LogFolder { path, goes_on }),
         voice: Voice::new(alloc, form, out),
         servers: open_pages(rt, alloc, config)?,

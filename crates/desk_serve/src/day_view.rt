@@ -1,6 +1,6 @@
 //! A desk's day, as one connection asks it.
 
-ghost use Rattle.std.specs.Prelude.{◌≡◌, ⊤, IfOk, filter_map, length};
+ghost use Rattle.std.specs.Prelude.{◌≡◌, ⊤, Some, IfOk, filter_map, length};
 ghost use Rattle.std.specs.Option.{IsSomeAnd};
 ghost use Rattle.desk_floor.specs.Release.{IsNumber};
 ghost use Rattle.desk_serve.specs.Answered.{IsAnswered, outcome_of};
@@ -180,7 +180,8 @@ impl<'a, L: Run, M: Accounts, W: Write + Drop, J: Telling, R: Wait + Clock> Day
     ghost venue_names = { λ day. day.floor.now.names.items };
 
     ghost places = { λ day submission outcome _.
-        IsAnswered day.floor.now.names.items day.floor.now.manner.wants_refs submission outcome };
+        IsAnswered (Some day.floor.now.limits) day.floor.now.names.items day.floor.now.manner.wants_refs submission
+        outcome };
 
     ghost pages = { λ _ after most page _. IsPage after most page };
 
@@ -264,6 +265,11 @@ impl<'a, L: Run, M: Accounts, W: Write + Drop, J: Telling, R: Wait + Clock> Day
             wrong_book: counts.wrong_book,
             other_legs: counts.other_legs,
             no_reference: counts.no_reference,
+            leg_shares: counts.leg_shares,
+            leg_dollars: counts.leg_dollars,
+            sweep_dollars: counts.sweep_dollars,
+            day_dollars: counts.day_dollars,
+            other_symbol: counts.other_symbol,
             closing: counts.closing,
         }
     }

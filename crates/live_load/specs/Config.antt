@@ -1,6 +1,7 @@
 -- The venues of a day, as a desk's file would have them.
 use Rattle.std.specs.Prelude.{ℕ, zero, suc, false, List, [], ◌∷◌, ◌++◌, codes, decimal}
 use Rattle.dialect.specs.declared.any_dialect.AnyDialect.TheVariants.{Plain}
+use Rattle.order_limits.specs.Limits.{unlimited}
 use Rattle.desk_config.specs.declared.endpoint.Endpoint.TheVariants.{Simulated}
 use Rattle.desk_config.specs.declared.session_terms.SessionTerms.{SessionTerms}
 use Rattle.desk_config.specs.declared.venue.Venue.{Venue}
@@ -19,6 +20,7 @@ venue_of number = record {
   sender = codes "A";
   session = session;
   words = Preset Plain;
+  limits = unlimited;
 }
 
 -- so many venues

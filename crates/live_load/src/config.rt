@@ -7,6 +7,7 @@ use desk_config::{Endpoint, FillShares, Heartbeat, NumberLimit, SessionTerms, Ve
 use desk_words::VenueName;
 use dialect::AnyDialect;
 use fix_tags::CompId;
+use order_limits::LegLimits;
 use std::alloc::Global;
 use venue_words::VenueWords;
 
@@ -43,6 +44,7 @@ fn venue_of(alloc: Global, number: u8) -> Option<Venue>
         sender: CompId::new(b"A").unwrap(),
         session: session(),
         words: VenueWords::Preset(AnyDialect::Plain),
+        limits: LegLimits::none(),
     })
 }
 

@@ -28,6 +28,7 @@ use exec_collector::{Accounts, BlankBook};
 use json_lines::Form;
 use kept_link::Untold;
 use link::Link;
+use order_limits::OrderLimits;
 use release_lock::{BlankDesk, CallerSeat, Run, rings};
 use std::alloc::{AllocError, Global};
 use std::collections::VecDeque;
@@ -130,6 +131,7 @@ where
             waits: false,
             serves: false,
         },
+        limits: OrderLimits::none(alloc),
         folder: None,
         voice: Voice::new(alloc, Form::Words, sink()),
         servers: Vec::new(alloc),

@@ -61,6 +61,11 @@ const NO_REFUSALS: RefusalCounts = RefusalCounts {
     wrong_book: 0,
     other_legs: 0,
     no_reference: 0,
+    leg_shares: 0,
+    leg_dollars: 0,
+    sweep_dollars: 0,
+    day_dollars: 0,
+    other_symbol: 0,
     closing: 0,
 };
 
@@ -219,6 +224,16 @@ impl MadeUpDay {
             Outcome::Refused(Refusal::NoReference) => Ok(Outcome::Refused(Refusal::NoReference)),
             Outcome::Refused(Refusal::GateDown(venue)) => {
                 Ok(Outcome::Refused(Refusal::GateDown(venue.clone()?)))
+            }
+            Outcome::Refused(Refusal::OverLimit { venue, over }) => {
+                let venue = match venue {
+                    Some(venue) => Some(venue.clone()?),
+                    None => None,
+                };
+                Ok(Outcome::Refused(Refusal::OverLimit {
+                    venue,
+                    over: over.copied(),
+                }))
             }
             Outcome::Refused(Refusal::TooManyLegs) => Ok(Outcome::Refused(Refusal::TooManyLegs)),
             Outcome::Refused(_) => Ok(Outcome::Refused(Refusal::NoLegs)),

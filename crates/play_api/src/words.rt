@@ -7,8 +7,10 @@ use desk_http::RefusalCounts;
 use desk_json::Outcome;
 use desk_news::{DayTotals, Paid, PaidSweep, SweepParts};
 use desk_words::VenueName;
+use dialect::read_symbol;
 use leg::Totals;
 use leg_worth::Worth;
+use order_limits::{Dollars, Over};
 use std::alloc::Global;
 
 /// The numbers of a text, parted by spaces.
@@ -92,7 +94,7 @@ pub fn day_totals(alloc: Global, text: &str) -> Result<DayTotals, PlayFault> {
     }
 }
 
-/// How many sweeps were refused: with R01 to R10, and when the day was closing.
+/// How many sweeps were refused: with R01 to R15, and when the day was closing.
 pub fn refusal_counts(alloc: Global, text: &str) -> Result<RefusalCounts, PlayFault> {
     match *numbers(alloc, text)?.as_slice() {
         [
@@ -106,6 +108,11 @@ pub fn refusal_counts(alloc: Global, text: &str) -> Result<RefusalCounts, PlayFa
             wrong_book,
             other_legs,
             no_reference,
+            leg_shares,
+            leg_dollars,
+            sweep_dollars,
+            day_dollars,
+            other_symbol,
             closing,
         ] => Ok(RefusalCounts {
             no_legs,
@@ -118,14 +125,61 @@ pub fn refusal_counts(alloc: Global, text: &str) -> Result<RefusalCounts, PlayFa
             wrong_book,
             other_legs,
             no_reference,
+            leg_shares,
+            leg_dollars,
+            sweep_dollars,
+            day_dollars,
+            other_symbol,
             closing,
         }),
         _ => Err(PlayFault::NotUnderstood),
     }
 }
 
-/// What becomes of the next sweep: `placed NUMBER SHARES`, `again NUMBER SHARES`, `refused R02`, `refused R04 VENUE` or
-/// `closing`.
+/// A refusal for a limit, of `R11 VENUE SYMBOL SHARES LIMIT` or `R13 DOLLARS LIMIT`, whose dollars are whole.
+fn over_limit(text: &str) -> Result<Refusal, PlayFault> {
+    if let Some(figures) = text.strip_prefix("R13 ") {
+        let Some((dollars, limit)) = figures.split_once(' ') else {
+            return Err(PlayFault::NotUnderstood);
+        };
+        return Ok(Refusal::OverLimit {
+            venue: None,
+            over: Over::SweepDollars {
+                dollars: Dollars::of(number(dollars)?),
+                limit: Dollars::of(number(limit)?),
+            },
+        });
+    }
+    let Some((name, rest)) = text
+        .strip_prefix("R11 ")
+        .and_then(|words| words.split_once(' '))
+    else {
+        return Err(PlayFault::NotUnderstood);
+    };
+    let Some((symbol, figures)) = rest.split_once(' ') else {
+        return Err(PlayFault::NotUnderstood);
+    };
+    let Some((shares, limit)) = figures.split_once(' ') else {
+        return Err(PlayFault::NotUnderstood);
+    };
+    let (Some(venue), Some(symbol)) = (
+        VenueName::new(name.as_bytes()),
+        read_symbol(symbol.as_bytes()),
+    ) else {
+        return Err(PlayFault::NotUnderstood);
+    };
+    Ok(Refusal::OverLimit {
+        venue: Some(venue),
+        over: Over::LegShares {
+            symbol,
+            shares: number(shares)?,
+            limit: number(limit)?,
+        },
+    })
+}
+
+/// What becomes of the next sweep: `placed NUMBER SHARES`, `again NUMBER SHARES`, `refused R02`, `refused R04 VENUE`,
+/// `refused R11 VENUE SYMBOL SHARES LIMIT`, `refused R13 DOLLARS LIMIT` or `closing`.
 pub fn outcome(text: &str) -> Result<Outcome, PlayFault> {
     if let Some((sweep, shares)) = text.strip_prefix("placed ").and_then(|t| t.split_once(' ')) {
         return Ok(Outcome::Placed {
@@ -151,6 +205,9 @@ pub fn outcome(text: &str) -> Result<Outcome, PlayFault> {
         "refused R09" => Ok(Outcome::Refused(Refusal::OtherLegs)),
         "refused R10" => Ok(Outcome::Refused(Refusal::NoReference)),
         "closing" => Ok(Outcome::Closing),
-        _ => Err(PlayFault::NotUnderstood),
+        _ => match text.strip_prefix("refused ") {
+            Some(words) => Ok(Outcome::Refused(over_limit(words)?)),
+            None => Err(PlayFault::NotUnderstood),
+        },
     }
 }

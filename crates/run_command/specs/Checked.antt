@@ -10,6 +10,8 @@ use Rattle.desk_config.specs.declared.endpoint.Endpoint.TheVariants.{At, Simulat
 use Rattle.desk_config.specs.Journal.{durable_text}
 use Rattle.desk_config.specs.declared.journal.JournalTerms.{JournalTerms}
 use Rattle.desk_config.specs.declared.venue.Venue.{Venue}
+use Rattle.leg.specs.Symbol.{SymbolParts, symbol_text}
+use Rattle.order_limits.specs.declared.limits.LegLimits.{LegLimits}
 
 -- where a venue's exchange is, as `at 127.0.0.1:9001`, or that it is simulated, as `simulated fill 60`
 abbrev pub place_text : Endpoint → List ℕ
@@ -22,9 +24,43 @@ venue_line venue =
     codes "venue " ++ venue.name ++ codes " " ++ place_text venue.endpoint ++ codes " " ++ words_text venue.words
     ++ codes " heartbeat " ++ decimal venue.session.heartbeat
 
--- the line of a venue, and those of its table, if it has one, as its log has them
+-- a limit behind its key, if there is one
+abbrev pub limit_word : List ℕ → Option ℕ → List ℕ
+limit_word key None = []
+limit_word key (Some limit) = codes " " ++ key ++ codes " " ++ decimal limit
+
+-- what a leg may have, as ` leg_shares 20000 leg_dollars 500000`
+abbrev pub leg_words : LegLimits → List ℕ
+leg_words leg = limit_word (codes "leg_shares") leg.shares ++ limit_word (codes "leg_dollars") leg.dollars
+
+-- symbols, as ` symbols IBM BRK.B`
+abbrev pub symbol_words : List SymbolParts → List ℕ
+symbol_words [] = []
+symbol_words (symbol ∷ symbols) =
+    codes " symbols" ++ flat_map (λ s. codes " " ++ symbol_text s) (symbol ∷ symbols)
+
+-- what a file limits
+abbrev pub all_words : DeskConfig → List ℕ
+all_words config =
+    leg_words config.limits.leg ++ limit_word (codes "sweep_dollars") config.limits.sweep_dollars
+    ++ limit_word (codes "day_dollars") config.limits.day_dollars ++ symbol_words config.symbols.items
+
+-- a line of words behind its name, if there are any
+abbrev pub named_line : List ℕ → List ℕ → List ℕ
+named_line name [] = []
+named_line name (byte ∷ bytes) = name ++ (byte ∷ bytes) ++ 10 ∷ []
+
+-- as `limits leg_shares 20000 day_dollars 100000000 symbols IBM BRK.B`
+abbrev pub limits_line : DeskConfig → List ℕ
+limits_line config = named_line (codes "limits") (all_words config)
+
+-- of the legs for a venue, as `limits of NYSE leg_shares 5000`
+abbrev pub venue_limits : Venue → List ℕ
+venue_limits venue = named_line (codes "limits of " ++ venue.name) (leg_words venue.limits)
+
+-- the line of a venue, those of its table, if it has one, as its log has them, and what a leg for it may have
 abbrev pub venue_lines : Venue → List ℕ
-venue_lines venue = venue_line venue ++ 10 ∷ [] ++ head_of_words venue.words
+venue_lines venue = venue_line venue ++ 10 ∷ [] ++ head_of_words venue.words ++ venue_limits venue
 
 -- where the journal is kept and what it outlives, as `journal days/%Y-%m-%d durable process`
 abbrev pub journal_text : JournalTerms → List ℕ
@@ -45,8 +81,9 @@ abbrev pub page_line : ℕ → Option Address → List ℕ
 page_line callers None = []
 page_line callers (Some page) = page_text callers page
 
--- the lines of each venue, where the journal and the page are, and that the file is a day's
+-- the lines of each venue, where the journal and the page are, what is limited, and that the file is a day's
 abbrev pub check_text : DeskConfig → List ℕ
 check_text config =
     flat_map venue_lines config.venues.items ++ journal_line config.journal ++ page_line config.callers config.page
+    ++ limits_line config
     ++ codes "file ok\n"

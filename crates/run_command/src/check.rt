@@ -2,10 +2,14 @@
 
 ghost use Rattle.std.specs.Prelude.{◌≡◌, ◌++◌, Some, IfOk, OnOk};
 ghost use Rattle.std.specs.List.{flat_map};
-ghost use Rattle.run_command.specs.Checked.{check_text, journal_line, journal_text, page_line, page_text, place_text, venue_line, venue_lines};
+ghost use Rattle.run_command.specs.Checked.{all_words, check_text, journal_line, journal_text, leg_words, limit_word};
+ghost use Rattle.run_command.specs.Checked.{limits_line, named_line, page_line, page_text, place_text, symbol_words};
+ghost use Rattle.run_command.specs.Checked.{venue_limits, venue_line, venue_lines};
 
 use day_log::{head_of_words, words_text};
 use desk_config::{Address, Callers, DeskConfig, Endpoint, JournalTerms, Venue};
+use leg::Symbol;
+use order_limits::LegLimits;
 use std::alloc::{AllocError, Global};
 use std::fmt;
 
@@ -40,14 +44,96 @@ impl<'a> fmt::Display for VenueLine<'a> {
     }
 }
 
+/// Appends a limit behind its key, if there is one.
+fn append_limit(
+    alloc: Global,
+    key: &str,
+    limit: Option<u64>,
+    text: &mut Vec<u8>,
+) -> Result<(), AllocError>
+    ensures { OnOk result (text.new.items ≡ text.old.items ++ limit_word key.now limit) }
+{
+    if let Some(limit) = limit {
+        let word = format!(in alloc; " {key} {limit}")?;
+        text.extend_from_slice(word.as_bytes())?;
+    }
+    Ok(())
+}
+
+/// Appends what a leg may have.
+fn append_leg(alloc: Global, leg: LegLimits, text: &mut Vec<u8>) -> Result<(), AllocError>
+    ensures { OnOk result (text.new.items ≡ text.old.items ++ leg_words leg) }
+{
+    append_limit(alloc, "leg_shares", leg.shares, text)?;
+    append_limit(alloc, "leg_dollars", leg.dollars, text)
+}
+
+/// Appends symbols.
+fn append_symbols(alloc: Global, symbols: &[Symbol], text: &mut Vec<u8>) -> Result<(), AllocError>
+    ensures { OnOk result (text.new.items ≡ text.old.items ++ symbol_words symbols.now) }
+{
+    if symbols.is_empty() {
+        return Ok(());
+    }
+    text.extend_from_slice(b" symbols")?;
+    for symbol in symbols {
+        let word = format!(in alloc; " {symbol}")?;
+        text.extend_from_slice(word.as_bytes())?;
+    }
+    Ok(())
+}
+
+/// What a file limits.
+fn all_words(alloc: Global, config: &DeskConfig) -> Result<Vec<u8>, AllocError>
+    ensures { IfOk result (λ text. text.items ≡ all_words config.now) }
+{
+    let mut text = Vec::new(alloc);
+    append_leg(alloc, config.limits.leg, &mut text)?;
+    append_limit(
+        alloc,
+        "sweep_dollars",
+        config.limits.sweep_dollars,
+        &mut text,
+    )?;
+    append_limit(alloc, "day_dollars", config.limits.day_dollars, &mut text)?;
+    append_symbols(alloc, config.symbols.as_slice(), &mut text)?;
+    Ok(text)
+}
+
+/// Appends a line of these words behind its name, if there are any.
+fn append_named(name: &[u8], words: &[u8], text: &mut Vec<u8>) -> Result<(), AllocError>
+    ensures { OnOk result (text.new.items ≡ text.old.items ++ named_line name.now words.now) }
+{
+    if words.is_empty() {
+        return Ok(());
+    }
+    text.extend_from_slice(name)?;
+    text.extend_from_slice(words)?;
+    text.extend_from_slice(b"\n")
+}
+
+/// The line of what a leg for a venue may have, if that is limited.
+fn venue_limits(alloc: Global, venue: &Venue) -> Result<Vec<u8>, AllocError>
+    ensures { IfOk result (λ text. text.items ≡ venue_limits venue.now) }
+{
+    let mut words = Vec::new(alloc);
+    append_leg(alloc, venue.limits, &mut words)?;
+    let mut text = Vec::new(alloc);
+    let name = &venue.name;
+    let head = format!(in alloc; "limits of {name}")?;
+    append_named(head.as_bytes(), words.as_slice(), &mut text)?;
+    Ok(text)
+}
+
 /// The line of a venue: where it is, its dialect and its heartbeat interval; and behind it the lines of its table, if
-/// it has one, as its log has them.
+/// it has one, as its log has them, and what a leg for it may have, if that is limited.
 fn venue_lines(alloc: Global, venue: &Venue) -> Result<Vec<u8>, AllocError>
     ensures { IfOk result (λ text. text.items ≡ venue_lines venue.now) }
 {
     let line = VenueLine(venue);
     let mut text = format!(in alloc; "{line}\n")?.into_bytes();
     text.extend_from_slice(&head_of_words(alloc, &venue.words)?)?;
+    text.extend_from_slice(&venue_limits(alloc, venue)?)?;
     Ok(text)
 }
 
@@ -99,8 +185,18 @@ fn page_line(alloc: Global, config: &DeskConfig) -> Result<Vec<u8>, AllocError>
     }
 }
 
-/// The lines of the venues; where the journal is kept and the page is served, if they are; and that the file is a
-/// day's.
+/// The line of what the file limits, if it limits anything.
+fn limits_line(alloc: Global, config: &DeskConfig) -> Result<Vec<u8>, AllocError>
+    ensures { IfOk result (λ text. text.items ≡ limits_line config.now) }
+{
+    let words = all_words(alloc, config)?;
+    let mut text = Vec::new(alloc);
+    append_named(b"limits", words.as_slice(), &mut text)?;
+    Ok(text)
+}
+
+/// The lines of the venues; where the journal is kept and the page is served, if they are; what is limited; and that
+/// the file is a day's.
 pub fn check_text(alloc: Global, config: &DeskConfig) -> Result<Vec<u8>, AllocError>
     ensures { IfOk result (λ text. text.items ≡ check_text config.now) }
 {
@@ -108,6 +204,7 @@ pub fn check_text(alloc: Global, config: &DeskConfig) -> Result<Vec<u8>, AllocEr
     append_venues(alloc, config.venues.as_slice(), &mut text)?;
     text.extend_from_slice(&journal_line(alloc, config)?)?;
     text.extend_from_slice(&page_line(alloc, config)?)?;
+    text.extend_from_slice(&limits_line(alloc, config)?)?;
     text.extend_from_slice(b"file ok\n")?;
     Ok(text)
 }
