@@ -37,6 +37,7 @@ def crates():
                 sections.append((line[2:], []))
             elif line:
                 name, _, uses = line.partition(":")
+                name = name.split()[0]
                 sections[-1][1].append((name, uses.split()))
     return sections
 
