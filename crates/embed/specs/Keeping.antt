@@ -1,5 +1,5 @@
 -- What desk, sessions and book hand one another.
-use Rattle.std.specs.Prelude.{◌≡◌, ℕ, zero, suc, List, [], ◌∷◌, ◌++◌, Option, Some, None, Result, Ok, Err}
+use Rattle.std.specs.Prelude.{◌≡◌, ℕ, zero, suc, List, [], ◌∷◌, ◌++◌, map, Option, Some, None, Result, Ok, Err}
 use Rattle.std.specs.Global.{Vec}
 use Rattle.leg.specs.LegId.{LegIdParts}
 use Rattle.leg.specs.declared.placed_leg.PlacedLeg.{PlacedLeg}
@@ -12,13 +12,17 @@ use Rattle.session_core.specs.CallResult.{Gives}
 use Rattle.session_core.specs.Calling.{send_leg}
 use Rattle.session_core.specs.Session.{SessionParts}
 use Rattle.share_ledger.specs.Book.{BookParts, withdraw}
-use Rattle.sweep_release.specs.Desk.{DeskParts, placed, drop_next, gate_up, gate_down}
+use Rattle.sweep_release.specs.Desk.{DeskParts, placed_legs, placed, drop_next, gate_up, gate_down}
 use Rattle.embed.specs.Line.{IsFrameOf}
 
 -- the book after it was to withdraw each of these legs
 abbrev pub withdraw_each : List LegIdParts → BookParts → BookParts
 withdraw_each [] book = book
 withdraw_each (id ∷ ids) book = withdraw_each ids (withdraw book id).1
+
+-- the legs that are placed at a venue, by their numbers, the next one first
+abbrev pub placed_ids : DeskParts → ℕ → List LegIdParts
+placed_ids desk venue = map (λ leg. leg.id) (placed_legs desk venue)
 
 -- the next leg that the desk lets go, if there is one, is sent, and leaves the desk. Where the session refuses it, the
 -- desk is as it was

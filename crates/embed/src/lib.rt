@@ -16,6 +16,7 @@ mod book_keeping;
 mod day;
 mod event;
 mod host;
+mod laws;
 mod line;
 mod said;
 mod setup;
