@@ -1,17 +1,20 @@
 -- What desk, sessions and book hand one another.
-use Rattle.std.specs.Prelude.{◌≡◌, ℕ, zero, suc, List, [], ◌∷◌, ◌++◌, map, Option, Some, None, Result, Ok, Err}
+use Rattle.std.specs.Prelude.{◌≡◌, ℕ, zero, suc, List, [], ◌∷◌, ◌++◌, map, Option, Some, None, option_map, Result, Ok, Err}
 use Rattle.std.specs.Global.{Vec}
 use Rattle.leg.specs.LegId.{LegIdParts}
 use Rattle.leg.specs.declared.placed_leg.PlacedLeg.{PlacedLeg}
 use Rattle.fix_tags.specs.Stamp.{StampParts}
+use Rattle.dialect.specs.declared.note.Note.{Note}
 use Rattle.dialect.specs.Wording.{Wording}
 use Rattle.session_core.specs.declared.phase.Phase.{Phase}
 use Rattle.session_core.specs.declared.phase.Phase.TheVariants.{Up}
 use Rattle.session_core.specs.declared.session_fault.SessionFault.{SessionFault}
 use Rattle.session_core.specs.CallResult.{Gives}
 use Rattle.session_core.specs.Calling.{send_leg}
+use Rattle.session_core.specs.Receiving.{confirm}
 use Rattle.session_core.specs.Session.{SessionParts}
-use Rattle.share_ledger.specs.Book.{BookParts, withdraw}
+use Rattle.share_ledger.specs.declared.applied.Applied.{Applied}
+use Rattle.share_ledger.specs.Book.{BookParts, withdraw, answer_to, apply}
 use Rattle.sweep_release.specs.Desk.{DeskParts, placed_legs, placed, drop_next, gate_up, gate_down}
 use Rattle.embed.specs.Line.{IsFrameOf}
 
@@ -19,6 +22,18 @@ use Rattle.embed.specs.Line.{IsFrameOf}
 abbrev pub withdraw_each : List LegIdParts → BookParts → BookParts
 withdraw_each [] book = book
 withdraw_each (id ∷ ids) book = withdraw_each ids (withdraw book id).1
+
+-- a note of a venue, if a step has one, with the book's answer to it; and the book and the session after that
+abbrev pub answered : BookParts → ℕ → Option Note → Option (Note × Applied)
+answered book venue note = option_map (λ n. (n, answer_to book venue n)) note
+
+abbrev pub booked : ℕ → Option Note → BookParts → BookParts
+booked venue None book = book
+booked venue (Some note) book = (apply book venue note).1
+
+abbrev pub confirmed : Option Note → SessionParts → SessionParts
+confirmed None session = session
+confirmed (Some note) session = confirm session
 
 -- the legs that are placed at a venue, by their numbers, the next one first
 abbrev pub placed_ids : DeskParts → ℕ → List LegIdParts

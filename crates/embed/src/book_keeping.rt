@@ -1,18 +1,18 @@
 //! What desk, sessions and book hand one another.
 
-ghost use Rattle.std.specs.Prelude.{◌≡◌, ◌<◌, [], length, IfOk, IfSome, OnOk, OnErr};
+ghost use Rattle.std.specs.Prelude.{◌≡◌, ◌<◌, [], length, map, IfOk, IfSome, OnOk, OnErr};
 ghost use Rattle.leg.specs.Answering.{Answers};
 ghost use Rattle.session_core.specs.Receiving.{confirm};
 ghost use Rattle.share_ledger.specs.Book.{apply};
 ghost use Rattle.sweep_release.specs.Desk.{gate_up, gate_down, take, placed};
-ghost use Rattle.embed.specs.Keeping.{withdraw_each, Sends, drop_legs, follow_in};
+ghost use Rattle.embed.specs.Keeping.{withdraw_each, answered, booked, confirmed, Sends, drop_legs, follow_in};
 ghost use Rattle.embed.specs.Line.{wording_of};
 
 use crate::line::Line;
 use dialect::Note;
 use fix_tags::Stamp;
 use leg::{LegId, PlacedLeg, VenueId};
-use session_core::{Phase, Session, SessionFault};
+use session_core::{Ended, Phase, Session, SessionFault, Step};
 use share_ledger::{Applied, Book, BookFault};
 use std::alloc::{AllocError, Global};
 use sweep_release::{Desk, Gate, GateFault};
@@ -40,8 +40,17 @@ pub fn withdraw_each(book: &mut Book, ids: &[LegId])
     }
 }
 
+/// What a step of a session says, and what the book answered to its note.
+#[derive(Drop)]
+pub struct Booked {
+    pub withdrawn: Vec<LegId>,
+    pub frames: Vec<Vec<u8>>,
+    pub note: Option<(Note, Applied)>,
+    pub ended: Option<Ended>,
+}
+
 /// The book takes a note of a venue's session, and only then is it confirmed.
-pub fn take_note(
+fn take_note(
     book: &mut Book,
     session: &mut Session,
     venue: VenueId,
@@ -54,6 +63,47 @@ pub fn take_note(
     let applied = book.apply(venue, note)?;
     session.confirm();
     Ok(applied)
+}
+
+/// The book does what a step of a venue's session says: it withdraws legs, and then takes the note, which is confirmed
+/// once it took it. The only refusal is out of memory, after the legs were withdrawn.
+pub fn book_step(
+    book: &mut Book,
+    session: &mut Session,
+    venue: VenueId,
+    step: Step,
+) -> Result<Booked, BookFault>
+    ensures withdrawn { IfOk result (λ done. done.withdrawn.items ≡ step.withdrawn) }
+    ensures frames { IfOk result (λ done. map (λ frame. frame.items) done.frames.items ≡ step.out) }
+    ensures note { IfOk result (λ done. done.note
+        ≡ answered (withdraw_each step.withdrawn book.old) venue step.note) }
+    ensures ended { IfOk result (λ done. done.ended ≡ step.ended) }
+    ensures book { OnOk result (book.new ≡ booked venue step.note (withdraw_each step.withdrawn book.old)) }
+    ensures session { OnOk result (session.new ≡ confirmed step.note session.old) }
+    ensures book_err { OnErr result (book.new ≡ withdraw_each step.withdrawn book.old) }
+    ensures session_err { OnErr result (session.new ≡ session.old) }
+{
+    let Step {
+        out,
+        note,
+        withdrawn,
+        ended,
+    } = step;
+    let withdrawn = withdrawn.into_vec();
+    withdraw_each(book, withdrawn.as_slice());
+    let note = match note {
+        Some(note) => {
+            let applied = take_note(book, session, venue, &note)?;
+            Some((note, applied))
+        }
+        None => None,
+    };
+    Ok(Booked {
+        withdrawn,
+        frames: out.into_vec(),
+        note,
+        ended,
+    })
 }
 
 /// The next leg that the desk lets go to a venue: none while its gate isn't up.

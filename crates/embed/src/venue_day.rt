@@ -1,6 +1,6 @@
 //! What the host says of a venue.
 
-use crate::book_keeping::{follow, send_next, take_note, venue_at, withdraw_each};
+use crate::book_keeping::{Booked, book_step, follow, send_next, venue_at};
 use crate::day::Day;
 use crate::event::{Ask, VenueEvent};
 use crate::line::Heard;
@@ -95,7 +95,7 @@ impl Day {
             return Ok(());
         };
         match line.answer(ask, stamp) {
-            Ok(step) => self.tell_step(place, step, said),
+            Ok(step) => self.book(place, step, said),
             Err(fault) => self.tell_refused(fault, said),
         }
     }
@@ -132,7 +132,7 @@ impl Day {
                 return Ok(());
             };
             match line.hear(stamp) {
-                Ok(Some(Heard::Step(step))) => self.tell_step(place, step, said)?,
+                Ok(Some(Heard::Step(step))) => self.book(place, step, said)?,
                 Ok(Some(Heard::Malformed(ended))) => self.tell_ended(place, ended, said)?,
                 Ok(None) => return Ok(()),
                 Err(_) => return Err(Stopped::OutOfMemory),
@@ -154,37 +154,35 @@ impl Day {
         self.tell_withdrawn(&withdrawn, said)
     }
 
-    /// What a step says is put into the book, and told.
-    fn tell_step(&mut self, place: usize, step: Step, said: &mut Said) -> Result<(), Stopped> {
-        let Step {
-            out,
-            note,
-            withdrawn,
-            ended,
-        } = step;
-        let withdrawn = withdrawn.into_vec();
-        withdraw_each(&mut self.book, &withdrawn);
-        self.tell_withdrawn(&withdrawn, said)?;
-        for frame in out.into_vec() {
-            self.tell_frame(place, Ok(frame), said)?;
-        }
-        if let Some(note) = note {
-            self.take_note(place, &note, said)?;
-        }
-        self.tell_ended(place, ended, said)
-    }
-
-    /// The book takes a note.
-    fn take_note(&mut self, place: usize, note: &Note, said: &mut Said) -> Result<(), Stopped> {
+    /// The book does what a step says, and it is told.
+    fn book(&mut self, place: usize, step: Step, said: &mut Said) -> Result<(), Stopped> {
         let Some(line) = self.lines.get_mut(place) else {
             return Ok(());
         };
         let Some(venue) = venue_at(&self.desk, place) else {
             return Ok(());
         };
-        let Ok(applied) = take_note(&mut self.book, &mut line.session, venue, note) else {
+        let Ok(booked) = book_step(&mut self.book, &mut line.session, venue, step) else {
             return Err(Stopped::OutOfMemory);
         };
+        let Booked {
+            withdrawn,
+            frames,
+            note,
+            ended,
+        } = booked;
+        self.tell_withdrawn(&withdrawn, said)?;
+        for frame in frames {
+            self.tell_frame(place, Ok(frame), said)?;
+        }
+        if let Some((note, applied)) = note {
+            self.tell_note(&note, applied, said)?;
+        }
+        self.tell_ended(place, ended, said)
+    }
+
+    /// What a message said, and what the book answered.
+    fn tell_note(&self, note: &Note, applied: Applied, said: &mut Said) -> Result<(), Stopped> {
         let name = applied_name(applied);
         let text = match note {
             Note::Report(report) => {
