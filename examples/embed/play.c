@@ -9,7 +9,7 @@
 #include <sys/socket.h>
 #include <unistd.h>
 
-#define MOST 262144
+#define MOST_IN_PACKET 65536
 
 struct core {
     char setup[4096];
@@ -38,34 +38,39 @@ static void print_frame(const char *venue, const char *frame, size_t length) {
     putchar('\n');
 }
 
-/* Prints an answer: frames as `>`, all else as `=`. */
-static void print_answer(const char *said, size_t length) {
+/* Prints a packet of an answer: frames as `>`, all else as `=`. Tells whether it is the last one. */
+static int print_packet(const char *said, size_t length) {
     const char *end = said + length;
     while (said < end) {
         const char *next = memchr(said, '\n', end - said);
         if (!next)
-            fail("an answer without an end");
+            fail("a packet without an end");
         char venue[32];
         size_t frame;
+        if (strncmp(said, "done\n", 5) == 0)
+            return 1;
         if (sscanf(said, "write %31s %zu\n", venue, &frame) == 2) {
             print_frame(venue, next + 1, frame);
             next += frame + 1;
-        } else if (strncmp(said, "done\n", 5) != 0) {
+        } else {
             printf("= %.*s\n", (int)(next - said), said);
         }
         said = next + 1;
     }
+    return 0;
 }
 
 /* Sends an event, and prints its answer. */
 static void tell(int host, const char *event, size_t length) {
-    static char answer[MOST];
+    static char packet[MOST_IN_PACKET];
+    ssize_t got;
     if (send(host, event, length, MSG_NOSIGNAL) < 0)
         fail("send");
-    ssize_t got = recv(host, answer, sizeof answer, 0);
-    if (got <= 0)
-        fail("recv");
-    print_answer(answer, got);
+    do {
+        got = recv(host, packet, sizeof packet, 0);
+        if (got <= 0)
+            fail("recv");
+    } while (!print_packet(packet, got));
 }
 
 /* Puts the frame of some fields, `|` for SOH, behind what is written there. The end of all is given. */

@@ -9,7 +9,7 @@ import socket
 import sys
 import threading
 
-MOST = 262144
+MOST_IN_PACKET = 65536
 
 
 class Core:
@@ -31,17 +31,21 @@ class Core:
     def tell(self, event):
         """The answer to an event: for each thing that is said a venue and its frame, or no venue and a line."""
         self.host.send(event)
-        answer = self.host.recv(MOST)
         said = []
-        while answer:
-            line, _, answer = answer.partition(b"\n")
-            if line.startswith(b"write "):
-                _, venue, length = line.split()
-                said.append((venue.decode(), answer[:int(length)]))
-                answer = answer[int(length) + 1:]
-            elif line != b"done":
-                said.append((None, line))
-        return said
+        while True:
+            packet = self.host.recv(MOST_IN_PACKET)
+            if not packet:
+                raise EOFError("the core has ended")
+            while packet:
+                line, _, packet = packet.partition(b"\n")
+                if line == b"done":
+                    return said
+                if line.startswith(b"write "):
+                    _, venue, length = line.split()
+                    said.append((venue.decode(), packet[:int(length)]))
+                    packet = packet[int(length) + 1:]
+                else:
+                    said.append((None, line))
 
     def close(self):
         """Ends the core, and says how it ended."""

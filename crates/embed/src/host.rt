@@ -10,7 +10,7 @@ use std::io::{ErrorKind, Read, Write};
 const MAX_EVENT: usize = 65_536;
 
 /// Answers each event of the host, to the last. A read gives one event, whole, or its front where it is too long; a
-/// write gives its answer.
+/// write gives a packet of its answer.
 pub fn serve<H: Read + Write>(alloc: Global, setup: &[u8], host: &mut H) -> Result<(), Stopped> {
     let mut day = Day::of(alloc, setup)?;
     let mut room = Vec::from_elem(alloc, 0u8, MAX_EVENT + 1)?;
@@ -36,5 +36,8 @@ fn answer<H: Write>(
     let mut said = Said::new(alloc);
     day.take(event, &mut said)?;
     said.line("done")?;
-    host.write_all(said.as_bytes()).map_err(|_| Stopped::Socket)
+    for packet in said.into_packets()? {
+        host.write_all(&packet).map_err(|_| Stopped::Socket)?;
+    }
+    Ok(())
 }

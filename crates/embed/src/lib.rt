@@ -5,11 +5,17 @@
 //! Promises:
 //! - Whatever bytes the host sends, each event is safe, and is answered or ends the call. The host's memory is in reach
 //!   for the setup alone, which is lent for the call, and the core's never.
-//! - A leg that is sent leaves the desk, and where it isn't sent the desk is as it was (`send_next`). A note is
-//!   confirmed to its session only once the book took it, and where the book has no memory neither changes
-//!   (`take_note`).
-//! - Each event is a call of session, desk or book, and those say what they do. Not said: what the whole day of a host
-//!   comes to, since no contract says what a socket gives. The texts are tested: `checks/built/embed` plays days.
+//! - What a line's session is asked for it answers by its definition, and a frame that comes whole is received or ends
+//!   the connection (`Line::connect`, `answer`, `break_off`, `hear`).
+//! - A leg that is sent leaves the desk, and where it isn't sent the desk is as it was (`send_next`).
+//! - The book withdraws what a session's step names, and takes its note. The note is confirmed once the book took it; if
+//!   there is no memory for that, it isn't, and the book hasn't taken it (`book_step`).
+//! - A gate is up while its session is. Else each leg that is placed is withdrawn, and none stays placed (`follow`,
+//!   `no_leg_waits_for_a_session`).
+//! - A line, and a frame with its length, are told byte by byte as their definitions say (`Said`).
+//!
+//! Not said: that an event of a venue comes to the line of its name and to the call of its name, how setup and events
+//! are read, and the words of a line. No contract says what a socket gives. `checks/built/embed` plays days for these.
 #![tactic(auto)]
 
 mod book_keeping;
