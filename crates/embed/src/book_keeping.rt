@@ -155,7 +155,7 @@ fn put_up(desk: &mut Desk, venue: VenueId) -> Result<(), AllocError>
     }
 }
 
-/// Each leg placed at a venue is dropped, while its gate isn't up, and withdrawn in the book. Those are given that were.
+/// Each leg placed at a venue is dropped, while its gate isn't up, and withdrawn in the book. These are given.
 fn drop_placed(
     alloc: Global,
     desk: &mut Desk,

@@ -5,11 +5,11 @@
 //! Promises:
 //! - Whatever bytes the host sends, each event is safe, and is answered or ends the call. The host's memory is in reach
 //!   for the setup alone, which is lent for the call, and the core's never.
-//! - What a line's session is asked for it answers by its definition, and a frame that comes whole is received or ends
-//!   the connection (`Line::connect`, `answer`, `break_off`, `hear`).
+//! - A session answers what it is asked by its definition, and a frame that comes whole is received or ends the
+//!   connection (`Line::connect`, `answer`, `break_off`, `hear`).
 //! - A leg that is sent leaves the desk, and where it isn't sent the desk is as it was (`send_next`).
-//! - The book withdraws what a session's step names, and takes its note. The note is confirmed once the book took it; if
-//!   there is no memory for that, it isn't, and the book hasn't taken it (`book_step`).
+//! - The book withdraws what a session's step names, and takes its note. The note is confirmed once the book took it.
+//!   If there is no memory for that, it isn't, and the book hasn't taken it (`book_step`).
 //! - A gate is up while its session is. Else each leg that is placed is withdrawn, and none stays placed (`follow`,
 //!   `no_leg_waits_for_a_session`).
 //! - A line, and a frame with its length, are told byte by byte as their definitions say (`Said`).
