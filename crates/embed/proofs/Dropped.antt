@@ -1,7 +1,6 @@
 -- What is left at a venue whose gate is down, after so many of its legs were dropped.
-use Rattle.std.proofs.Common.{◌≡◌, ◌≢◌, ℕ, zero, suc, ◌+◌, ◌-◌, ◌<◌, Bool, true, false, List, [], ◌∷◌, ◌++◌, length, drop, map, Option, None, refl, ap, sym, ◌∙◌, subst, append_assoc, arith, if◌then◌else◌}
+use Rattle.std.proofs.Common.{◌≡◌, ◌≢◌, ℕ, zero, suc, ◌-◌, ◌<◌, Bool, true, false, List, [], ◌∷◌, ◌++◌, length, drop, map, Option, None, refl, ap, sym, ◌∙◌, subst, append_assoc, arith, if◌then◌else◌}
 use Rattle.std.proofs.lemmas.List.{length-set, append-nil, nil_from_length}
-use Rattle.leg.specs.LegId.{LegIdParts}
 use Rattle.leg.specs.declared.leg.Leg.{Leg}
 use Rattle.leg.specs.declared.placed_leg.PlacedLeg.{PlacedLeg}
 use Rattle.session_core.specs.declared.phase.Phase.{Phase}
@@ -12,7 +11,7 @@ use Rattle.sweep_release.specs.Released.{released}
 use Rattle.sweep_release.specs.Desk.{DeskVenue, DeskParts, venue_at, placed_legs, placed, is_up, gate_of, with_gate, gate_down, one_left, leave_first, leave, drop_next}
 use Rattle.sweep_release.proofs.AtVenue.{drop-next}
 use Rattle.sweep_release.proofs.Venues.{venue_at-this, gate_of-one_left, left-one_left}
-use Rattle.embed.specs.Keeping.{placed_ids, withdraw_each, Dropping, after_drop, drop_leg, drop_legs, follow_in}
+use Rattle.embed.specs.Keeping.{placed_ids, withdraw_each, Dropping, after_drop, drop_legs, follow_in}
 
 -- ---- a desk has as many venues after a call as before
 

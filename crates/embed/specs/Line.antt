@@ -1,7 +1,6 @@
 -- The line to a venue: what its session answers, and what it makes of the frames that come.
 use Rattle.std.specs.Prelude.{◌≡◌, ℕ, List, Option, Some, None, Result, Ok, Err}
 use Rattle.std.specs.Global.{Vec}
-use Rattle.leg.specs.declared.placed_leg.PlacedLeg.{PlacedLeg}
 use Rattle.fix_text.specs.Tagged.{Tagged}
 use Rattle.fix_text.specs.Reading.{Stream, next_read}
 use Rattle.fix_tags.specs.Stamp.{StampParts}
@@ -19,11 +18,11 @@ use Rattle.dialect.specs.Wording.{Wording}
 use Rattle.session_core.specs.declared.session_fault.SessionFault.{SessionFault}
 use Rattle.session_core.specs.declared.session_fault.SessionFault.TheVariants.{OutOfMemory}
 use Rattle.session_core.specs.declared.step.Step.{Step}
-use Rattle.session_core.specs.CallResult.{IsStep, Gives}
+use Rattle.session_core.specs.CallResult.{IsStep}
 use Rattle.session_core.specs.Calling.{SessionAnswer, quiet, silent, close, malformed}
 use Rattle.session_core.specs.Receiving.{receive}
 use Rattle.session_core.specs.Session.{SessionParts}
-use Rattle.session_core.specs.Turn.{StepParts, Turn}
+use Rattle.session_core.specs.Turn.{StepParts}
 use Rattle.embed.specs.declared.event.Ask.{Ask}
 use Rattle.embed.specs.declared.event.Ask.TheVariants.{Quiet, Silent, Close}
 use Rattle.embed.specs.declared.line.Heard.{Heard}
