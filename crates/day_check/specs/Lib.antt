@@ -10,7 +10,6 @@ pub mod Head
 pub mod ExecutionText
 pub mod ExecutionJson
 pub mod LineTold
-pub mod LogHead
 pub mod LogChecked
 pub mod LogText
 pub mod LogCheck

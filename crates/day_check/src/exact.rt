@@ -6,11 +6,11 @@ ghost use Rattle.day_check.specs.Exact.{said_text, written_instead};
 
 use crate::fault::LogFault;
 use crate::finding::{Printing, number, tally_line, text};
-use crate::head::Head;
 use crate::input::{read_text, without_end};
 use crate::json::{Member, Value, json_line};
 use command_line::print;
 use dialect::AnyDialect;
+use log_head::Head;
 use log_legs::append_logged;
 use log_rules::Tally;
 use log_text::{is_passed_over, read_line};

@@ -15,8 +15,7 @@
 //! - `read_sweeps` hears each line of the desk's log exactly as the definition does (`HearsLog`). `print_sweeps` prints
 //!   the sums of each sweep (`sweeps_text`).
 //! - A line that isn't one of a log is named with its own fault (`NamesBadLine`, `NamesBad`).
-//! - What the lines at the head of a log say of the dialect of its orders is exactly `head_after`, and the dialect that
-//!   is known by them `dialect_in`. That `print_exact` takes that one isn't said.
+//! - That `print_exact` takes the dialect that the head of a log names (`log_head`) isn't said.
 //! - `fault_json` is exactly the object of a fault (`fault_json` in `ToldFault.antt`).
 //! - Not said: which words stand for a rule (they are those that `Printing` has), and of other JSON more than the form
 //!   of each line (`json_line`).
@@ -30,7 +29,6 @@ mod execution_text;
 mod fault;
 mod finding;
 mod form;
-mod head;
 mod input;
 mod json;
 mod judge;

@@ -1,15 +1,21 @@
 -- The faults of `dispatch journal`.
-use Rattle.std.specs.Prelude.{ℕ}
+use Rattle.std.specs.Prelude.{◌≡◌, ℕ}
+use Rattle.journal_words.specs.declared.fault.WordsFault.{WordsFault}
 use Rattle.journal_command.specs.declared.fault.CommandFault.{CommandFault}
-use Rattle.journal_command.specs.declared.fault.CommandFault.TheVariants.{CommandLine, NoFolder, NoJournal, ReadFailed, WriteFailed, OutOfMemory}
+use Rattle.journal_command.specs.declared.fault.CommandFault.TheVariants.{CommandLine, NoFolder, NoJournal, NoVenue, Broken, OtherHead, BadLine, ReadFailed, WriteFailed, LogWantsMemory, OutOfMemory}
 
 -- the status that tells a fault
 abbrev pub fault_status : CommandFault → ℕ
 fault_status (CommandLine error) = 2
 fault_status NoFolder = 2
 fault_status NoJournal = 3
+fault_status (NoVenue name) = 3
+fault_status (Broken name why) = 8
+fault_status (OtherHead name) = 3
+fault_status (BadLine name number why) = 3
 fault_status (ReadFailed path) = 4
 fault_status WriteFailed = 4
+fault_status LogWantsMemory = 5
 fault_status OutOfMemory = 5
 
 -- a fault of the words, or out of memory
@@ -22,6 +28,15 @@ IsOfWords other = ⊥
 -- a fault of the folder, or out of memory
 abbrev pub IsOfFolder : CommandFault → Type 0
 IsOfFolder NoJournal = Unit {0}
+IsOfFolder (NoVenue name) = Unit {0}
+IsOfFolder (Broken name why) = Unit {0}
+IsOfFolder (OtherHead name) = Unit {0}
 IsOfFolder (ReadFailed path) = Unit {0}
 IsOfFolder OutOfMemory = Unit {0}
 IsOfFolder other = ⊥
+
+-- a fault of the line of this number, or out of memory
+abbrev pub IsOfLine : ℕ → WordsFault → CommandFault → Type 0
+IsOfLine number why (BadLine name at said) = (at ≡ number) × (said ≡ why)
+IsOfLine number why OutOfMemory = Unit {0}
+IsOfLine number why other = ⊥

@@ -14,6 +14,8 @@ const DAY: &str = "DAY";
 
 const LINES: &str = "lines";
 
+const LOG: &str = "log";
+
 /// What stands behind the options in the help.
 const OUTPUT: &str = "\
 Nothing in the folder is changed, and its lock isn't taken. Printed are, for each journal in it:
@@ -26,10 +28,15 @@ or, where a line was being written when its life ended,
 and where no dispatcher can go on with it, in the place of all that:
   broken file 2 is damaged at line 7, byte 611
 
+With --log, the messages of one venue are printed in the place of all that, as the log of a day has them:
+  # venue NYSE address unknown sender DESK target NYSE dialect plain heartbeat 30 next_expected no
+  20261124-14:30:00.123 > 8=FIX.4.4|9=..|
+
 The exit status is 0, or 8 where a journal is broken.
 
-Example:
-  dispatch journal days/2026-11-24";
+Examples:
+  dispatch journal days/2026-11-24
+  dispatch journal --log NYSE days/2026-11-24 > NYSE.log";
 
 /// What the words ask for.
 #[derive(Drop)]
@@ -38,6 +45,8 @@ pub(crate) struct Request<'a> {
     pub folder: &'a str,
     /// Whether each line is printed.
     pub tells_lines: bool,
+    /// The venue whose log is printed in the place of what the journals say.
+    pub log: Option<&'a str>,
 }
 
 /// The command `journal`.
@@ -55,6 +64,13 @@ pub fn journal_command<'a>(alloc: Global) -> Result<Command<'a>, AllocError> {
                 .long(LINES)
                 .help("prints each line that counts")
                 .action(ArgAction::SetTrue),
+        )?
+        .arg(
+            Arg::new(alloc, LOG)
+                .long(LOG)
+                .value_name("VENUE")
+                .help("prints the message log of this venue, made of its journal")
+                .conflicts_with(LINES)?,
         )
 }
 
@@ -69,10 +85,12 @@ pub(crate) fn read_words<'a, S: AsStr>(
     let command = journal_command(alloc)?.bin_name("dispatch journal")?;
     let matches = command.try_get_matches_from(words)?;
     let tells_lines = matches.get_flag(LINES);
+    let log = matches.get_str(LOG);
     match matches.get_str(DAY) {
         Some(folder) => Ok(Request {
             folder,
             tells_lines,
+            log,
         }),
         None => Err(CommandFault::NoFolder),
     }

@@ -11,16 +11,18 @@
 #![tactic(auto)]
 
 ghost use Rattle.std.specs.Prelude.{◌≡◌, IfErr, IfOk};
-ghost use Rattle.journal_command.specs.Running.{EndsJudging, ExitsSo, Judges, KeepsBefore, journal_status};
+ghost use Rattle.journal_command.specs.Running.{Does, EndsJudging, ExitsSo, Judges, KeepsBefore, journal_status};
 
 mod command;
 mod fault;
+mod log;
 mod said;
 mod text;
 
 pub use crate::command::journal_command;
 use crate::command::{Request, read_words};
 pub use crate::fault::CommandFault;
+use crate::log::log_venue;
 use crate::said::say_folder;
 use command_line::{print, tell};
 use std::alloc::Global;
@@ -67,7 +69,26 @@ fn judge<F: Files<File = File>, S: AsStr, W: Write>(
     ensures { EndsJudging (W.contents out.old) (W.contents out.new) result }
 {
     let request = read_words(alloc, words)?;
-    judge_asked(files, alloc, &request, out)
+    do_asked(files, alloc, &request, out)
+}
+
+/// Prints what is asked for. A log that was printed is of no broken journal.
+fn do_asked<F: Files<File = File>, W: Write>(
+    files: &F,
+    alloc: Global,
+    request: &Request<'_>,
+    out: &mut W,
+) -> Result<bool, CommandFault>
+    ensures done { IfOk result (Does request.now (W.contents out.old) (W.contents out.new)) }
+    ensures kept { IfErr result (KeepsBefore (W.contents out.old) (W.contents out.new)) }
+{
+    match request.log {
+        Some(name) => {
+            log_venue(files, alloc, request.folder, name, out)?;
+            Ok(false)
+        }
+        None => judge_asked(files, alloc, request, out),
+    }
 }
 
 /// Prints what the journals say that are asked for.

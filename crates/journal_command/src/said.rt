@@ -80,7 +80,7 @@ impl Said {
 }
 
 /// The fault that ends the run where a file of a journal can't be read.
-fn fault_of(alloc: Global, folder: &str, name: &str, fault: FolderFault) -> CommandFault
+pub(crate) fn fault_of(alloc: Global, folder: &str, name: &str, fault: FolderFault) -> CommandFault
     ensures { IsOfFolder result }
 {
     match fault {

@@ -1,10 +1,10 @@
 //! The dialect that the head of a log names.
 ghost use Rattle.std.specs.Prelude.{◌≡◌, option_map};
-ghost use Rattle.day_check.specs.LogHead.{dialect_in, field_in, first_head, head_after, known, named, next_head};
-ghost use Rattle.day_check.specs.LogHead.{piece_at};
-ghost use Rattle.day_check.specs.LogHead.{says, table_in, text_in, with_id_of, with_mark_of, with_price_of};
-ghost use Rattle.day_check.specs.LogHead.{with_symbol_of, word_at};
-ghost use Rattle.day_check.specs.declared.head.Head.TheVariants.{Unknown};
+ghost use Rattle.log_head.specs.LogHead.{dialect_in, field_in, first_head, head_after, known, named, next_head};
+ghost use Rattle.log_head.specs.LogHead.{piece_at};
+ghost use Rattle.log_head.specs.LogHead.{says, table_in, text_in, with_id_of, with_mark_of, with_price_of};
+ghost use Rattle.log_head.specs.LogHead.{with_symbol_of, word_at, words_in};
+ghost use Rattle.log_head.specs.declared.head.Head.TheVariants.{Unknown};
 
 use dialect::AnyDialect;
 use std::str;
@@ -12,7 +12,7 @@ use venue_words::{VenueDialect, VenueWords, WordTable};
 
 /// What the lines at the head of a log say of the dialect of its orders.
 #[derive(Drop)]
-pub(crate) enum Head {
+pub enum Head {
     /// None that is known.
     Unknown,
     /// The venue has words of its own, whose table comes next.
@@ -147,14 +147,14 @@ fn next_head(head: &Head, line: &[u8]) -> Option<Head>
 
 impl Head {
     /// Nothing was read.
-    pub(crate) fn new() -> Head
+    pub fn new() -> Head
         ensures { result ≡ Unknown }
     {
         Head::Unknown
     }
 
     /// Reads a line of this number that stands before all messages.
-    pub(crate) fn read(&mut self, number: u64, line: &[u8])
+    pub fn read(&mut self, number: u64, line: &[u8])
         ensures { self.new ≡ head_after number line.now self.old }
     {
         if number == 1 {
@@ -165,11 +165,21 @@ impl Head {
     }
 
     /// The dialect, if it is known.
-    pub(crate) fn dialect(&self) -> Option<VenueDialect>
+    pub fn dialect(&self) -> Option<VenueDialect>
         ensures { result ≡ dialect_in self.now }
     {
         match self {
             Head::Known(words) => Some(words.dialect()),
+            _ => None,
+        }
+    }
+
+    /// The venue's words, if they are known.
+    pub fn into_words(self) -> Option<VenueWords>
+        ensures { result ≡ words_in self }
+    {
+        match self {
+            Head::Known(words) => Some(words),
             _ => None,
         }
     }

@@ -11,9 +11,10 @@ use Rattle.venue_words.specs.Builds.{with_field, with_id, with_mark, with_price_
 use Rattle.venue_words.specs.Dialect.{dialect_of}
 use Rattle.venue_words.specs.Table.{preset_words}
 use Rattle.venue_words.specs.declared.venue_dialect.VenueDialect.{VenueDialect}
+use Rattle.venue_words.specs.declared.words.VenueWords.{VenueWords}
 use Rattle.venue_words.specs.declared.words.VenueWords.TheVariants.{Preset, Table}
-use Rattle.day_check.specs.declared.head.Head.{Head}
-use Rattle.day_check.specs.declared.head.Head.TheVariants.{Unknown, Awaited, Known}
+use Rattle.log_head.specs.declared.head.Head.{Head}
+use Rattle.log_head.specs.declared.head.Head.TheVariants.{Unknown, Awaited, Known}
 
 abbrev pub text_in : List ℕ → Option (List ℕ)
 text_in bytes = if is_utf8 bytes then Some bytes else None
@@ -91,3 +92,9 @@ abbrev pub dialect_in : Head → Option VenueDialect
 dialect_in (Known words) = Some (dialect_of words)
 dialect_in Unknown = None
 dialect_in Awaited = None
+
+-- the venue's words, if they are known
+abbrev pub words_in : Head → Option VenueWords
+words_in (Known words) = Some words
+words_in Unknown = None
+words_in Awaited = None

@@ -2,7 +2,7 @@ use Rattle.std.proofs.Common.{◌≡◌, ℕ, Bool, true, false, List, Some, Non
 use Rattle.std.specs.Prelude.{if◌then◌else◌}
 use Rattle.std.specs.Str.{is_utf8}
 use Rattle.std.proofs.lemmas.Str.{IsUtf8-from_is_utf8, is_utf8-from_IsUtf8}
-use Rattle.day_check.proofs.head.text_in.Goals as goal
+use Rattle.log_head.proofs.head.text_in.Goals as goal
 
 none : (is_text : Bool) (bytes : List ℕ) → (is_text ≡ true → ⊥) → None ≡ (if is_text then Some bytes else None)
 none true bytes isnt = absurd (isnt refl)

@@ -1,0 +1,87 @@
+//! The log of a venue, made of its journal.
+
+ghost use Rattle.std.specs.Prelude.{◌≡◌, ℕ, List, IfOk, IfSome, MatchResult, Some};
+ghost use Rattle.journal_folder.specs.Found.{AreFound};
+ghost use Rattle.journal_log.specs.Head.{head_words};
+ghost use Rattle.journal_command.specs.Fault.{IsOfFolder};
+ghost use Rattle.journal_command.specs.Logged.{LogsJournal};
+ghost use Rattle.journal_command.specs.Running.{KeepsBefore};
+
+use crate::fault::CommandFault;
+use crate::said::fault_of;
+use journal_folder::{FolderFault, Found, list_journals, read_journal};
+use journal_log::{LogFault, VenueHead, print_log, read_venue_head};
+use std::alloc::{AllocError, Global};
+use std::fs::{File, Files};
+use std::io::Write;
+
+/// The fault where the journal of this name can't be read, or no dispatcher goes on with it.
+fn broken_fault(alloc: Global, folder: &str, name: &str, why: FolderFault) -> CommandFault
+    ensures { IsOfFolder result }
+{
+    match why {
+        FolderFault::OutOfMemory | FolderFault::CantRead { .. } => {
+            fault_of(alloc, folder, name, why)
+        }
+        _ => CommandFault::broken(alloc, name, why),
+    }
+}
+
+/// What is found of the journal of this name.
+fn read_named<F: Files<File = File>>(
+    files: &F,
+    alloc: Global,
+    folder: &str,
+    name: &str,
+) -> Result<Found, CommandFault>
+    ensures { MatchResult result (λ found. (files : List (List ℕ)) × AreFound files found) IsOfFolder }
+{
+    let journals = match list_journals(files, alloc, folder) {
+        Ok(journals) => journals,
+        Err(FolderFault::OutOfMemory) => return Err(CommandFault::OutOfMemory),
+        Err(_) => return Err(CommandFault::read_failed(alloc, folder)),
+    };
+    if journals.is_empty() {
+        return Err(CommandFault::NoJournal);
+    }
+    let Some(last) = journals.get(name) else {
+        return Err(CommandFault::no_venue(alloc, name));
+    };
+    match read_journal(files, alloc, folder, name, *last) {
+        Ok(found) => Ok(found),
+        Err(fault) => Err(broken_fault(alloc, folder, name, fault)),
+    }
+}
+
+/// The head of a journal, if it is one of a venue that this program knows.
+fn head_of(alloc: Global, found: &Found) -> Result<Option<VenueHead>, AllocError>
+    ensures { IfOk result (λ head. IfSome head (λ head. found.now.words ≡ Some (head_words head))) }
+{
+    match found.words() {
+        Some(words) => read_venue_head(alloc, words),
+        None => Ok(None),
+    }
+}
+
+/// Prints the log of the venue of this name, made of its journal.
+pub(crate) fn log_venue<F: Files<File = File>, W: Write>(
+    files: &F,
+    alloc: Global,
+    folder: &str,
+    name: &str,
+    out: &mut W,
+) -> Result<(), CommandFault>
+    ensures { MatchResult result (λ _. LogsJournal (W.contents out.old) (W.contents out.new))
+        (KeepsBefore (W.contents out.old) (W.contents out.new)) }
+{
+    let found = read_named(files, alloc, folder, name)?;
+    let Some(head) = head_of(alloc, &found)? else {
+        return Err(CommandFault::other_head(alloc, name));
+    };
+    match print_log(alloc, head, found.lines(), out) {
+        Ok(()) => Ok(()),
+        Err(LogFault::Line { number, why }) => Err(CommandFault::bad_line(alloc, name, number, why)),
+        Err(LogFault::WriteFailed) => Err(CommandFault::WriteFailed),
+        Err(LogFault::OutOfMemory) => Err(CommandFault::LogWantsMemory),
+    }
+}
