@@ -25,19 +25,32 @@ pub enum CommandFault {
     NoJournal,
     /// No journal of this name is in the folder.
     #[error("no journal {name} is in the folder")]
-    NoVenue { name: String },
+    NoVenue {
+        name: String,
+    },
     /// No dispatcher goes on with the journal of this name.
     #[error("journal {name}: {why}")]
-    Broken { name: String, why: FolderFault },
+    Broken {
+        name: String,
+        why: FolderFault,
+    },
     /// Its heads aren't those of a venue that this program knows.
     #[error("journal {name}: its head names no venue that this program knows")]
-    OtherHead { name: String },
+    OtherHead {
+        name: String,
+    },
     /// A line of it says nothing.
     #[error("journal {name}: line {number}: {why}")]
-    BadLine { name: String, number: usize, why: WordsFault },
+    BadLine {
+        name: String,
+        number: usize,
+        why: WordsFault,
+    },
     /// What is at this path can't be read.
     #[error("{path}: read failed")]
-    ReadFailed { path: String },
+    ReadFailed {
+        path: String,
+    },
     #[error("write failed")]
     WriteFailed,
     /// Some of a log may be printed already.

@@ -80,7 +80,9 @@ pub(crate) fn log_venue<F: Files<File = File>, W: Write>(
     };
     match print_log(alloc, head, found.lines(), out) {
         Ok(()) => Ok(()),
-        Err(LogFault::Line { number, why }) => Err(CommandFault::bad_line(alloc, name, number, why)),
+        Err(LogFault::Line { number, why }) => Err(CommandFault::bad_line(
+            alloc, name, number, why,
+        )),
         Err(LogFault::WriteFailed) => Err(CommandFault::WriteFailed),
         Err(LogFault::OutOfMemory) => Err(CommandFault::LogWantsMemory),
     }

@@ -62,16 +62,19 @@ ids_part h =
     codes "day " ++ h.day ++ codes " of " ++ h.name ++ codes " sender " ++ shown 16 h.config.me
     ++ codes " target " ++ shown 16 h.config.peer
 
--- the dialect and the session's terms
-abbrev pub terms_part : HeadParts → List ℕ
-terms_part h =
-    codes " dialect " ++ words_text h.words ++ codes " heartbeat " ++ decimal h.config.heart
-    ++ codes " next_expected " ++ yes_or_no h.config.has_next
-    ++ codes " max_number " ++ decimal h.config.max_number
+-- the dialect and the session's terms, as the log has them too
+abbrev pub terms_part : VenueWords → ConfigParts → List ℕ
+terms_part words config =
+    codes " dialect " ++ words_text words ++ codes " heartbeat " ++ decimal config.heart
+    ++ codes " next_expected " ++ yes_or_no config.has_next
+
+abbrev pub most_part : ConfigParts → List ℕ
+most_part config = codes " max_number " ++ decimal config.max_number
 
 -- as `day 2026-11-24 of NYSE sender DESK target NYSE dialect plain heartbeat 30 next_expected no max_number 999999999`
 abbrev pub head_words : HeadParts → List ℕ
-head_words h = ids_part h ++ terms_part h ++ behind_space (table_lines h.words)
+head_words h =
+    ids_part h ++ terms_part h.words h.config ++ most_part h.config ++ behind_space (table_lines h.words)
 
 -- ---- in the log
 
@@ -80,12 +83,6 @@ abbrev pub place_part : HeadParts → List ℕ
 place_part h =
     codes "# venue " ++ h.name ++ codes " address unknown sender " ++ h.config.me ++ codes " target " ++ h.config.peer
 
--- as ` dialect plain heartbeat 30 next_expected no`, with the end of the line
-abbrev pub log_terms : HeadParts → List ℕ
-log_terms h =
-    codes " dialect " ++ words_text h.words ++ codes " heartbeat " ++ decimal h.config.heart
-    ++ codes " next_expected " ++ yes_or_no h.config.has_next ++ codes "\n"
-
 -- the lines at the head of the log. The address isn't in a journal
 abbrev pub log_head : HeadParts → List ℕ
-log_head h = place_part h ++ log_terms h ++ table_lines h.words
+log_head h = place_part h ++ (terms_part h.words h.config ++ codes "\n") ++ table_lines h.words

@@ -12,10 +12,7 @@ use thiserror::Error;
 pub enum LogFault {
     /// This line, of which the first has the number 1, says nothing.
     #[error("line {number}: {why}")]
-    Line {
-        number: usize,
-        why: WordsFault,
-    },
+    Line { number: usize, why: WordsFault },
     #[error("write failed")]
     WriteFailed,
     #[error("out of memory")]

@@ -4,12 +4,13 @@ ghost use Rattle.std.specs.Prelude.{◌≡◌, ◌≢◌, ◌++◌, ◌∷◌, [
 ghost use Rattle.fix_text.specs.Frame.{framed};
 ghost use Rattle.session_core.specs.declared.session_fault.SessionFault.TheVariants as session_fault;
 ghost use Rattle.journal_words.specs.declared.fault.WordsFault.TheVariants as words_fault;
+ghost use Rattle.journal_words.specs.Reading.{deed_in};
 ghost use Rattle.journal_log.specs.Given.{frame_given, frames_given};
-ghost use Rattle.journal_log.specs.Logged.{received_line, sent_lines};
+ghost use Rattle.journal_log.specs.Logged.{heard_lines, received_line, sent_lines};
 
 use fix_tags::Stamp;
 use fix_text::sum256;
-use journal_words::WordsFault;
+use journal_words::{Deed, WordsFault};
 use message_log::{Direction, log_line};
 use session_core::{Frames, SessionFault, Step};
 use std::alloc::{AllocError, Global};
@@ -91,7 +92,7 @@ fn framed(alloc: Global, fields: &[u8]) -> Result<Vec<u8>, AllocError>
 }
 
 /// Appends the line of a message of these fields that was received.
-pub(crate) fn add_received(
+fn add_received(
     alloc: Global,
     stamp: &Stamp,
     fields: &[u8],
@@ -102,4 +103,21 @@ pub(crate) fn add_received(
     let frame = framed(alloc, fields)?;
     let line = log_line(alloc, stamp, Direction::Received, frame.as_slice())?;
     log.extend_from_slice(line.as_slice())
+}
+
+/// Appends the line of the message that was received, if one was: these are its fields.
+pub(crate) fn add_heard(
+    alloc: Global,
+    stamp: &Stamp,
+    deed: &Deed,
+    fields: &[u8],
+    log: &mut Vec<u8>,
+) -> Result<(), AllocError>
+    ensures { OnOk result
+        (log.new.items ≡ log.old.items ++ heard_lines stamp.now (deed_in deed.now fields.now)) }
+{
+    match deed {
+        Deed::Heard => add_received(alloc, stamp, fields, log),
+        Deed::Act(_) | Deed::Leg(_, _) => Ok(()),
+    }
 }

@@ -9,7 +9,7 @@ ghost use Rattle.journal_words.specs.Reading.{deed_in};
 ghost use Rattle.journal_log.specs.Calls.{act_call, calls_in, heard_call, leg_calls};
 ghost use Rattle.journal_log.specs.Logged.{AddsLine, CantRead, Writes};
 
-use crate::frames::{add_received, add_sent, frame_of, frames_of};
+use crate::frames::{add_heard, add_sent, frame_of, frames_of};
 use dialect::Dialect;
 use fix_tags::{Config, Stamp, read_envelope};
 use fix_text::{Frame, ReaderFault};
@@ -142,6 +142,25 @@ impl LoggedSession {
         }
     }
 
+    /// A deed is done again. Where a message was received, these are its fields.
+    fn do_again<D: Dialect>(
+        &mut self,
+        dialect: &D,
+        stamp: &Stamp,
+        deed: &Deed,
+        message: &[u8],
+    ) -> Result<Frames, WordsFault>
+        ensures writes { IfOk result (λ frames. Writes (D.wording dialect.now) stamp.now self.old
+            (calls_in (deed_in deed.now message.now)) frames self.new) }
+        ensures only { IsOkUnless result words_fault.OutOfMemory }
+    {
+        match deed {
+            Deed::Act(act) => self.act(dialect, stamp, *act),
+            Deed::Leg(act, placed) => self.leg(dialect, stamp, *act, placed),
+            Deed::Heard => self.hear(dialect, stamp, message),
+        }
+    }
+
     /// Does again what a line of the journal says, and appends its lines of the log: that of the message which was
     /// received, if one was, and behind it one for each frame that the session writes. At `OutOfMemory` the session is of
     /// no use any more; at any other fault nothing changed.
@@ -160,15 +179,8 @@ impl LoggedSession {
             Ok(said) => said,
             Err(fault) => return Err(fault),
         };
-        let frames = match deed {
-            Deed::Act(act) => self.act(dialect, &stamp, act),
-            Deed::Leg(act, placed) => self.leg(dialect, &stamp, act, &placed),
-            Deed::Heard => {
-                add_received(self.alloc, &stamp, message.as_slice(), log)?;
-                self.hear(dialect, &stamp, message.as_slice())
-            }
-        };
-        match frames {
+        add_heard(self.alloc, &stamp, &deed, message.as_slice(), log)?;
+        match self.do_again(dialect, &stamp, &deed, message.as_slice()) {
             Ok(frames) => {
                 add_sent(self.alloc, &stamp, frames, log)?;
                 Ok(())

@@ -42,11 +42,13 @@ fn print_lines<D: Dialect, W: Write>(
         number += 1;
         match session.log_line(dialect, line.as_slice(), &mut log) {
             Ok(()) => {}
-            Err(WordsFault::OutOfMemory) => return Err(LogFault::OutOfMemory),
-            Err(why) => {
-                print(&log, out)?;
-                return Err(LogFault::Line { number, why });
-            }
+            Err(why) => match why {
+                WordsFault::OutOfMemory => return Err(LogFault::OutOfMemory),
+                _ => {
+                    print(&log, out)?;
+                    return Err(LogFault::Line { number, why });
+                }
+            },
         }
         if log.len() > MOST_WAITING {
             print(&log, out)?;

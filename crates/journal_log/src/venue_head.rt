@@ -1,8 +1,8 @@
 //! The head of a venue's journal.
 
-ghost use Rattle.std.specs.Prelude.{◌≡◌, ◌++◌, IfOk, IfSome, OnOk, string_bytes};
+ghost use Rattle.std.specs.Prelude.{◌≡◌, ◌++◌, codes, IfOk, IfSome, OnOk, string_bytes};
 ghost use Rattle.journal_log.specs.Head.{behind_space, dialect_text, head_words, ids_part, in_one_line};
-ghost use Rattle.journal_log.specs.Head.{log_head, log_terms, place_part, table_lines, terms_part, words_text, yes_or_no};
+ghost use Rattle.journal_log.specs.Head.{log_head, most_part, place_part, table_lines, terms_part, words_text, yes_or_no};
 
 use desk_words::{Printable, VenueName, shown};
 use dialect::AnyDialect;
@@ -96,6 +96,46 @@ fn append_table(lines: &[u8], words: &mut String) -> Result<(), AllocError>
     append_line(lines, words)
 }
 
+/// Appends the dialect and the terms of the session.
+fn append_terms(
+    venue_words: &VenueWords,
+    config: &Config,
+    words: &mut String,
+) -> Result<(), AllocError>
+    ensures { OnOk result
+        (string_bytes words.new ≡ string_bytes words.old ++ terms_part venue_words.now config.now) }
+{
+    let dialect = words_text(venue_words);
+    let heart = config.heart();
+    let next = yes_or_no(config.has_next());
+    write!(
+        words,
+        " dialect {dialect} heartbeat {heart} next_expected {next}"
+    )
+}
+
+/// Appends the number that no message of the session reaches.
+fn append_most(config: &Config, words: &mut String) -> Result<(), AllocError>
+    ensures { OnOk result (string_bytes words.new ≡ string_bytes words.old ++ most_part config.now) }
+{
+    let most = config.max_number();
+    write!(words, " max_number {most}")
+}
+
+/// The dialect and the terms of the session, with the end of the line.
+fn terms_text(
+    alloc: Global,
+    venue_words: &VenueWords,
+    config: &Config,
+) -> Result<String, AllocError>
+    ensures { IfOk result (λ text. string_bytes text ≡ terms_part venue_words.now config.now ++ codes "\n") }
+{
+    let mut text = String::new(alloc);
+    append_terms(venue_words, config, &mut text)?;
+    text.push_str("\n")?;
+    Ok(text)
+}
+
 impl VenueHead {
     /// Appends the day, the venue and the comp ids.
     fn append_ids(&self, words: &mut String) -> Result<(), AllocError>
@@ -108,27 +148,14 @@ impl VenueHead {
         write!(words, "day {day} of {name} sender {me} target {peer}")
     }
 
-    /// Appends the dialect and the terms of the session.
-    fn append_terms(&self, words: &mut String) -> Result<(), AllocError>
-        ensures { OnOk result (string_bytes words.new ≡ string_bytes words.old ++ terms_part self.now) }
-    {
-        let dialect = words_text(&self.words);
-        let heart = self.config.heart();
-        let next = yes_or_no(self.config.has_next());
-        let most = self.config.max_number();
-        write!(
-            words,
-            " dialect {dialect} heartbeat {heart} next_expected {next} max_number {most}"
-        )
-    }
-
     /// The words of the journal's heads.
     fn head_words(&self, alloc: Global) -> Result<String, AllocError>
         ensures { IfOk result (λ words. string_bytes words ≡ head_words self.now) }
     {
         let mut words = String::new(alloc);
         self.append_ids(&mut words)?;
-        self.append_terms(&mut words)?;
+        append_terms(&self.words, &self.config, &mut words)?;
+        append_most(&self.config, &mut words)?;
         append_table(&table_lines(alloc, &self.words)?, &mut words)?;
         Ok(words)
     }
@@ -145,22 +172,12 @@ impl VenueHead {
         Ok(text)
     }
 
-    /// The terms of the session, as the log's head has them.
-    fn log_terms(&self, alloc: Global) -> Result<String, AllocError>
-        ensures { IfOk result (λ text. string_bytes text ≡ log_terms self.now) }
-    {
-        let dialect = words_text(&self.words);
-        let heart = self.config.heart();
-        let next = yes_or_no(self.config.has_next());
-        format!(in alloc; " dialect {dialect} heartbeat {heart} next_expected {next}\n")
-    }
-
     /// The lines at the head of the venue's log, each with its end. A journal doesn't have the venue's address.
     pub fn log_head(&self, alloc: Global) -> Result<Vec<u8>, AllocError>
         ensures { IfOk result (λ text. text.items ≡ log_head self.now) }
     {
         let mut text = self.place_part(alloc)?;
-        text.extend_from_slice(self.log_terms(alloc)?.as_bytes())?;
+        text.extend_from_slice(terms_text(alloc, &self.words, &self.config)?.as_bytes())?;
         text.extend_from_slice(&table_lines(alloc, &self.words)?)?;
         Ok(text)
     }
