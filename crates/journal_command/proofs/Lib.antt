@@ -1,3 +1,3 @@
 pub mod Say
 pub mod Lines
-pub mod Ends
+pub mod Logs

@@ -1,6 +1,8 @@
 -- The faults of `dispatch journal`.
 use Rattle.std.specs.Prelude.{◌≡◌, ℕ}
 use Rattle.journal_words.specs.declared.fault.WordsFault.{WordsFault}
+use Rattle.journal_log.specs.declared.fault.LogFault.{LogFault}
+use Rattle.journal_log.specs.declared.fault.LogFault.TheVariants as log
 use Rattle.journal_command.specs.declared.fault.CommandFault.{CommandFault}
 use Rattle.journal_command.specs.declared.fault.CommandFault.TheVariants.{CommandLine, NoFolder, NoJournal, NoVenue, Broken, OtherHead, BadLine, ReadFailed, WriteFailed, LogWantsMemory, OutOfMemory}
 
@@ -35,8 +37,14 @@ IsOfFolder (ReadFailed path) = Unit {0}
 IsOfFolder OutOfMemory = Unit {0}
 IsOfFolder other = ⊥
 
--- a fault of the line of this number, or out of memory
+-- a fault of the line of this number, or out of memory within the log
 abbrev pub IsOfLine : ℕ → WordsFault → CommandFault → Type 0
 IsOfLine number why (BadLine name at said) = (at ≡ number) × (said ≡ why)
-IsOfLine number why OutOfMemory = Unit {0}
+IsOfLine number why LogWantsMemory = Unit {0}
 IsOfLine number why other = ⊥
+
+-- the fault of a log that ends early
+abbrev pub IsStop : LogFault → CommandFault → Type 0
+IsStop (log.Line number why) fault = IsOfLine number why fault
+IsStop log.WriteFailed fault = fault ≡ WriteFailed
+IsStop log.OutOfMemory fault = fault ≡ LogWantsMemory

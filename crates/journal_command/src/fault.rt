@@ -112,7 +112,7 @@ impl CommandFault {
     {
         match String::from_str(alloc, name) {
             Ok(name) => CommandFault::BadLine { name, number, why },
-            Err(_) => CommandFault::OutOfMemory,
+            Err(_) => CommandFault::LogWantsMemory,
         }
     }
 }

@@ -1,4 +1,4 @@
-//! `dispatch journal`: the journals in a day's folder are read and judged.
+//! `dispatch journal`: the journals in a day's folder are read and judged, or the log of one is made.
 //!
 //! Promises:
 //! - `journal_run` ends with the status of what it did (`ExitsSo`): 8 where a journal is broken, 0 where none is, or
@@ -6,7 +6,10 @@
 //! - What is printed is exactly what the journals come to that were read (`journals_text`), each with what the bytes of
 //!   its files say (`IsSaid`), by `AreFound` and `IsRefused` of `journal_folder`. So a line that is damaged is told
 //!   with its place, and is never taken for the end of its file.
-//! - Not said: which journals are in the folder, that the bytes are those of its files, and what the words are parsed
+//! - With `--log` what is printed is the log of a journal whose files were read, by `PrintsLog` of `journal_log`: its
+//!   head, and what its lines come to (`LogsJournal`); at a line that says nothing, that of the lines before it
+//!   (`LogsUpTo`).
+//! - Not said: which journals are in the folder, that the journal of a log has the venue's name, that the bytes are those of its files, and what the words are parsed
 //!   to, which no clause pins. The folder that is read is the one of that parse, and so is the flag (`IsRequest`).
 #![tactic(auto)]
 

@@ -3,7 +3,7 @@
 ghost use Rattle.std.specs.Prelude.{◌≡◌, ℕ, List, IfOk, IfSome, MatchResult, Some};
 ghost use Rattle.journal_folder.specs.Found.{AreFound};
 ghost use Rattle.journal_log.specs.Head.{head_words};
-ghost use Rattle.journal_command.specs.Fault.{IsOfFolder};
+ghost use Rattle.journal_command.specs.Fault.{IsOfFolder, IsStop};
 ghost use Rattle.journal_command.specs.Logged.{LogsJournal};
 ghost use Rattle.journal_command.specs.Running.{KeepsBefore};
 
@@ -63,6 +63,17 @@ fn head_of(alloc: Global, found: &Found) -> Result<Option<VenueHead>, AllocError
     }
 }
 
+/// The fault where the log of this name's journal ends early.
+fn stop_fault(alloc: Global, name: &str, why: LogFault) -> CommandFault
+    ensures { IsStop why result }
+{
+    match why {
+        LogFault::Line { number, why } => CommandFault::bad_line(alloc, name, number, why),
+        LogFault::WriteFailed => CommandFault::WriteFailed,
+        LogFault::OutOfMemory => CommandFault::LogWantsMemory,
+    }
+}
+
 /// Prints the log of the venue of this name, made of its journal.
 pub(crate) fn log_venue<F: Files<File = File>, W: Write>(
     files: &F,
@@ -79,11 +90,8 @@ pub(crate) fn log_venue<F: Files<File = File>, W: Write>(
         return Err(CommandFault::other_head(alloc, name));
     };
     match print_log(alloc, head, found.lines(), out) {
-        Ok(()) => Ok(()),
-        Err(LogFault::Line { number, why }) => Err(CommandFault::bad_line(
-            alloc, name, number, why,
-        )),
-        Err(LogFault::WriteFailed) => Err(CommandFault::WriteFailed),
-        Err(LogFault::OutOfMemory) => Err(CommandFault::LogWantsMemory),
+        Ok(()) => {}
+        Err(why) => return Err(stop_fault(alloc, name, why)),
     }
+    Ok(())
 }

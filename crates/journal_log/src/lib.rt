@@ -2,9 +2,9 @@
 //! writes is logged.
 //!
 //! Promises:
-//! - A `LoggedSession` is a session alone. Its call does again what a line of the journal says (`calls_in`), and appends
+//! - A `LoggedSession` is a session alone. Its call does again what a line of the journal says (`calls_in`). It appends
 //!   exactly the lines of that (`LogsDeed`): the message that was received, whole, and behind it each frame that the
-//!   session's calls write, by the definitions of `session_core`, under the line's moment. The session is then the one
+//!   session's calls write, by the definitions of `session_core`, under the line's moment. The session is then that
 //!   after these calls. A line that can't be read is its fault, and changes nothing.
 //! - `print_log` prints a head and what all lines come to, in order (`PrintsLog`). At a line that can't be read it ends
 //!   before that line, and names it with its number (`StopsAt`). It keeps no more of the log than some 64 KiB.

@@ -162,8 +162,8 @@ impl LoggedSession {
     }
 
     /// Does again what a line of the journal says, and appends its lines of the log: that of the message which was
-    /// received, if one was, and behind it one for each frame that the session writes. At `OutOfMemory` the session is of
-    /// no use any more; at any other fault nothing changed.
+    /// received, if one was, and behind it one for each frame that the session writes. At `OutOfMemory` the session
+    /// is of no use any more; at any other fault nothing changed.
     pub fn log_line<D: Dialect>(
         &mut self,
         dialect: &D,

@@ -59,8 +59,8 @@ fn print_lines<D: Dialect, W: Write>(
     Ok(())
 }
 
-/// Prints the log of a venue's journal that has this head and these lines. Where a line can't be read the log ends before
-/// it.
+/// Prints the log of a venue's journal that has this head and these lines. Where a line can't be read the log ends
+/// before it.
 pub fn print_log<W: Write>(
     alloc: Global,
     head: VenueHead,
