@@ -9,8 +9,9 @@
 //! - With `--log` what is printed is the log of a journal whose files were read, by `PrintsLog` of `journal_log`: its
 //!   head, and what its lines come to (`LogsJournal`); at a line that says nothing, that of the lines before it
 //!   (`LogsUpTo`).
-//! - Not said: which journals are in the folder, that the journal of a log has the venue's name, that the bytes are those of its files, and what the words are parsed
-//!   to, which no clause pins. The folder that is read is the one of that parse, and so is the flag (`IsRequest`).
+//! - Not said: which journals are in the folder, that the journal of a log has the venue's name, that the bytes are
+//!   those of its files, and what the words are parsed to, which no clause pins. The folder that is read is the one of
+//!   that parse, and so are the flag and the venue (`IsRequest`).
 #![tactic(auto)]
 
 ghost use Rattle.std.specs.Prelude.{◌≡◌, IfErr, IfOk};
