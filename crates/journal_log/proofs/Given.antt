@@ -1,12 +1,11 @@
 -- What a call gives, as frames that it writes.
-use Rattle.std.proofs.Common.{◌≡◌, ℕ, List, [], ◌∷◌, ◌++◌, map, refl, sym, ap, subst, ◌∙◌}
+use Rattle.std.proofs.Common.{◌≡◌, ℕ, List, [], ◌∷◌, ◌++◌, map, sym, ap, subst, ◌∙◌}
 use Rattle.std.proofs.lemmas.List.{append-nil}
 use Rattle.std.specs.Prelude.{Result, Ok, Err, IfOk, OnOk, option_to_list}
 use Rattle.journal_words.specs.declared.fault.WordsFault.{WordsFault}
-use Rattle.std.specs.Global.{Vec}
 use Rattle.fix_tags.specs.Stamp.{StampParts}
 use Rattle.dialect.specs.declared.message.Message.{Message}
-use Rattle.dialect.specs.Framed.{AreFramed, IsFramed}
+use Rattle.dialect.specs.Framed.{AreFramed}
 use Rattle.dialect.specs.Outgoing.{alone}
 use Rattle.dialect.specs.Wording.{Wording}
 use Rattle.session_core.specs.declared.session_call.SessionCall.{SessionCall}

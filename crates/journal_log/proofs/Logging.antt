@@ -1,18 +1,13 @@
 -- Lines of a journal are logged, one behind the other.
-use Rattle.std.proofs.Common.{◌≡◌, ◌<◌, ◌≤◌, ℕ, ◌+◌, ◌-◌, suc, List, [], ◌∷◌, ◌++◌, length, map, take, get_or, Option, Some, None, refl, sym, ap, subst, ◌∙◌, append_assoc, arith}
-use Rattle.std.specs.Prelude.{Result, Ok, Err, Vec, slice_get}
-use Rattle.std.specs.declared.alloc.Global.{Global}
-use Rattle.std.specs.Io.KnownBytes.{Appends}
-use Rattle.std.proofs.lemmas.List.{append-nil, map-append, take_more}
-use Rattle.fix_tags.specs.Stamp.{StampParts}
+use Rattle.std.proofs.Common.{◌≡◌, ℕ, List, [], ◌∷◌, ◌++◌, refl, sym, ap, subst, ◌∙◌, append_assoc}
+use Rattle.std.specs.Prelude.{Ok}
+use Rattle.std.proofs.lemmas.List.{append-nil}
 use Rattle.dialect.specs.Wording.{Wording}
 use Rattle.session_core.specs.Session.{SessionParts}
 use Rattle.journal_words.specs.Deed.{Timed}
 use Rattle.journal_words.specs.Reading.{timed_said}
-use Rattle.journal_words.specs.declared.fault.WordsFault.{WordsFault}
-use Rattle.journal_words.specs.declared.fault.WordsFault.TheVariants as fault
 use Rattle.journal_log.specs.Calls.{calls_in}
-use Rattle.journal_log.specs.Logged.{AddsLine, Logs, LogsDeed, LogsLine, PrintsLog, StopsAt, Writes, heard_lines, sent_lines}
+use Rattle.journal_log.specs.Logged.{AddsLine, Logs, LogsLine, Writes, heard_lines, sent_lines}
 
 -- a deed's text is added to a log
 pub adds_line : (w : Wording) (s after : SessionParts) (line old new heard : List ℕ) (t : Timed) (frames : List (List ℕ))

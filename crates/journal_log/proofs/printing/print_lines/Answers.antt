@@ -1,8 +1,6 @@
-use Rattle.std.proofs.Common.{◌≡◌, ◌+◌, ◌++◌, ℕ, rules, arith, ap, sym, subst, take, length, List, []}
+use Rattle.std.proofs.Common.{◌+◌, ℕ, rules, ap, take}
 use Rattle.std.proofs.lemmas.List.{take_all}
-use Rattle.std.specs.Io.KnownBytes.{Appends}
 use Rattle.session_core.specs.Session.{new_session}
-use Rattle.journal_words.specs.Reading.{timed_said}
 use Rattle.journal_log.specs.Logged.{AddsLine}
 use Rattle.journal_log.proofs.Printed.{Waits, none_waits, one_waits, printed_all, prints_log, refused, stops_at}
 use Rattle.journal_log.proofs.printing.print_lines.Goals as goal
