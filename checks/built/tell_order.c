@@ -1,10 +1,12 @@
 // Loaded before the C library, it tells in which order a program keeps bytes and sends them: in the file that ORDER
 // names, a line `KIND DESCRIPTOR COUNT` and so many bytes for each call. A `send` is told before it is made, a `keep`
-// (of a file) and a `sync` once they are done.
+// (of a file) and a `sync` once they are done. Of these two the calls from the number FAILS_FROM to FAILS_TO, counted
+// from 1 over both, fail as on a full disk, the writes behind half of their bytes.
 #define _GNU_SOURCE
 #include <dlfcn.h>
 #include <errno.h>
 #include <fcntl.h>
+#include <stdatomic.h>
 #include <stdio.h>
 #include <stdlib.h>
 #include <string.h>
@@ -13,6 +15,14 @@
 #include <unistd.h>
 
 #define NEXT(name) ((__typeof__(&name))dlsym(RTLD_NEXT, #name))
+
+static atomic_long calls;
+
+static int fails(void) {
+    const char *from = getenv("FAILS_FROM"), *to = getenv("FAILS_TO");
+    long number = atomic_fetch_add(&calls, 1) + 1;
+    return from && to && number >= atol(from) && number <= atol(to);
+}
 
 static void tell(const char *kind, int descriptor, const void *bytes, size_t count) {
     const char *path = getenv("ORDER");
@@ -48,7 +58,12 @@ ssize_t send(int descriptor, const void *bytes, size_t count, int flags) {
 }
 
 ssize_t pwrite(int descriptor, const void *bytes, size_t count, off_t at) {
-    ssize_t kept = NEXT(pwrite)(descriptor, bytes, count, at);
+    int is_full = fails();
+    ssize_t kept = NEXT(pwrite)(descriptor, bytes, is_full ? count / 2 : count, at);
+    if (is_full) {
+        errno = ENOSPC;
+        return -1;
+    }
     if (kept > 0) {
         tell("keep", descriptor, bytes, kept);
     }
@@ -56,7 +71,12 @@ ssize_t pwrite(int descriptor, const void *bytes, size_t count, off_t at) {
 }
 
 ssize_t pwrite64(int descriptor, const void *bytes, size_t count, off64_t at) {
-    ssize_t kept = NEXT(pwrite64)(descriptor, bytes, count, at);
+    int is_full = fails();
+    ssize_t kept = NEXT(pwrite64)(descriptor, bytes, is_full ? count / 2 : count, at);
+    if (is_full) {
+        errno = ENOSPC;
+        return -1;
+    }
     if (kept > 0) {
         tell("keep", descriptor, bytes, kept);
     }
@@ -64,7 +84,12 @@ ssize_t pwrite64(int descriptor, const void *bytes, size_t count, off64_t at) {
 }
 
 int fdatasync(int descriptor) {
-    int done = NEXT(fdatasync)(descriptor);
+    int done;
+    if (fails()) {
+        errno = EIO;
+        return -1;
+    }
+    done = NEXT(fdatasync)(descriptor);
     if (done == 0) {
         tell("sync", descriptor, "", 0);
     }
