@@ -33,11 +33,14 @@ limit_word key (Some limit) = codes " " ++ key ++ codes " " ++ decimal limit
 abbrev pub leg_words : LegLimits → List ℕ
 leg_words leg = limit_word (codes "leg_shares") leg.shares ++ limit_word (codes "leg_dollars") leg.dollars
 
+-- a symbol behind a space
+unfoldable pub symbol_word : SymbolParts → List ℕ
+symbol_word symbol = codes " " ++ symbol_text symbol
+
 -- symbols, as ` symbols IBM BRK.B`
 abbrev pub symbol_words : List SymbolParts → List ℕ
 symbol_words [] = []
-symbol_words (symbol ∷ symbols) =
-    codes " symbols" ++ flat_map (λ s. codes " " ++ symbol_text s) (symbol ∷ symbols)
+symbol_words (symbol ∷ symbols) = codes " symbols" ++ flat_map symbol_word (symbol ∷ symbols)
 
 -- what a file limits
 abbrev pub all_words : DeskConfig → List ℕ

@@ -1,10 +1,10 @@
 //! What `dispatch run FILE --check` prints.
 
-ghost use Rattle.std.specs.Prelude.{◌≡◌, ◌++◌, Some, IfOk, OnOk};
+ghost use Rattle.std.specs.Prelude.{◌≡◌, ◌++◌, Some, IfOk, OnOk, string_bytes};
 ghost use Rattle.std.specs.List.{flat_map};
 ghost use Rattle.run_command.specs.Checked.{all_words, check_text, journal_line, journal_text, leg_words, limit_word};
-ghost use Rattle.run_command.specs.Checked.{limits_line, named_line, page_line, page_text, place_text, symbol_words};
-ghost use Rattle.run_command.specs.Checked.{venue_limits, venue_line, venue_lines};
+ghost use Rattle.run_command.specs.Checked.{limits_line, named_line, page_line, page_text, place_text, symbol_word};
+ghost use Rattle.run_command.specs.Checked.{symbol_words, venue_limits, venue_line, venue_lines};
 
 use day_log::{head_of_words, words_text};
 use desk_config::{Address, Callers, DeskConfig, Endpoint, JournalTerms, Venue};
@@ -47,15 +47,17 @@ impl<'a> fmt::Display for VenueLine<'a> {
 /// Appends a limit behind its key, if there is one.
 fn append_limit(
     alloc: Global,
-    key: &str,
+    key: &[u8],
     limit: Option<u64>,
     text: &mut Vec<u8>,
 ) -> Result<(), AllocError>
     ensures { OnOk result (text.new.items ≡ text.old.items ++ limit_word key.now limit) }
 {
     if let Some(limit) = limit {
-        let word = format!(in alloc; " {key} {limit}")?;
-        text.extend_from_slice(word.as_bytes())?;
+        text.extend_from_slice(b" ")?;
+        text.extend_from_slice(key)?;
+        let number = format!(in alloc; " {limit}")?;
+        text.extend_from_slice(number.as_bytes())?;
     }
     Ok(())
 }
@@ -64,8 +66,16 @@ fn append_limit(
 fn append_leg(alloc: Global, leg: LegLimits, text: &mut Vec<u8>) -> Result<(), AllocError>
     ensures { OnOk result (text.new.items ≡ text.old.items ++ leg_words leg) }
 {
-    append_limit(alloc, "leg_shares", leg.shares, text)?;
-    append_limit(alloc, "leg_dollars", leg.dollars, text)
+    append_limit(alloc, b"leg_shares", leg.shares, text)?;
+    append_limit(alloc, b"leg_dollars", leg.dollars, text)
+}
+
+/// A symbol behind a space.
+#[tactic(auto, unfolding(crate::specs::Checked::symbol_word))]
+fn symbol_word(alloc: Global, symbol: &Symbol) -> Result<String, AllocError>
+    ensures { IfOk result (λ word. string_bytes word ≡ symbol_word symbol.now) }
+{
+    format!(in alloc; " {symbol}")
 }
 
 /// Appends symbols.
@@ -77,8 +87,7 @@ fn append_symbols(alloc: Global, symbols: &[Symbol], text: &mut Vec<u8>) -> Resu
     }
     text.extend_from_slice(b" symbols")?;
     for symbol in symbols {
-        let word = format!(in alloc; " {symbol}")?;
-        text.extend_from_slice(word.as_bytes())?;
+        text.extend_from_slice(symbol_word(alloc, symbol)?.as_bytes())?;
     }
     Ok(())
 }
@@ -91,11 +100,11 @@ fn all_words(alloc: Global, config: &DeskConfig) -> Result<Vec<u8>, AllocError>
     append_leg(alloc, config.limits.leg, &mut text)?;
     append_limit(
         alloc,
-        "sweep_dollars",
+        b"sweep_dollars",
         config.limits.sweep_dollars,
         &mut text,
     )?;
-    append_limit(alloc, "day_dollars", config.limits.day_dollars, &mut text)?;
+    append_limit(alloc, b"day_dollars", config.limits.day_dollars, &mut text)?;
     append_symbols(alloc, config.symbols.as_slice(), &mut text)?;
     Ok(text)
 }
