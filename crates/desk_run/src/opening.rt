@@ -204,7 +204,7 @@ where
     ensures starts { IfOk result (λ day. day.cast.workers.items
         ≡ workers_from venues.now begun.starts.items (map J.told past.venues.items)) }
     ensures names { IfOk result (λ day. day.floor.names.items ≡ map (λ v. v.name) venues.now) }
-    ensures limits { IfOk result (λ day. day.floor.limits ≡ means.limits) }
+    ensures limits { IfOk result (λ day. day.floor.limits ≡ means.entry.limits) }
     ensures seat { IfOk result (λ day. (day.seat.shares ≡ begun.seat.shares)
         × (day.seat.parts + shared_parts day.floor.shared ≡ 1024)) }
     ensures page { IfOk result (λ day. means.entry.servers.items ≡ [] → day.floor.shared ≡ None) }
