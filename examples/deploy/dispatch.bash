@@ -8,8 +8,8 @@ _dispatch_options() {
         replay) echo --steps --frames --summary --ladder --check --help ;;
         check) echo --from --desk --json --legs --executions --exact --help ;;
         live) echo --venues --callers --sweeps --cut --turns --cut-short --stop-on-input --help ;;
-        journal) echo --lines --help ;;
-        run) echo --check --executions --json --patience --quiet --refs --help ;;
+        journal) echo --lines --log --help ;;
+        run) echo --check --executions --json --patience --quiet --refs --serve --wait --help ;;
         exchange) echo --port --sender --target --dialect --fill --cut --lose --help ;;
     esac
 }
@@ -19,7 +19,7 @@ _dispatch_takes_value() {
     case $1:$2 in
         *:--help | order:--raw | order:--read | journal:--lines | live:--cut-short | live:--stop-on-input) return 1 ;;
         replay:--ladder) return 0 ;;
-        replay:* | check:--executions | check:--json | check:--legs | run:--check | run:--executions | run:--json | run:--quiet) return 1 ;;
+        replay:* | check:--executions | check:--json | check:--legs | run:--check | run:--executions | run:--json | run:--quiet | run:--serve | run:--wait) return 1 ;;
         *:--*) return 0 ;;
         *) return 1 ;;
     esac
