@@ -53,6 +53,10 @@ impl<'a, R: Wait + time::Clock, K: Link, C: Clock + Drop> Link for LoggedLink<'a
         self.recorder.heard(left);
     }
 
+    fn came_up(&mut self) {
+        self.link.came_up();
+    }
+
     fn write(&mut self, bytes: &[u8]) -> Result<usize, LinkFault> {
         let count = self.link.write(bytes)?;
         self.recorder.sent(bytes, count);

@@ -4,3 +4,4 @@ pub mod Sweeps
 pub mod Places
 pub mod Raised
 pub mod Faults
+pub mod Opened

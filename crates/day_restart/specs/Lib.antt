@@ -2,6 +2,7 @@ pub mod DayJournal
 pub mod Earlier
 pub mod Ending
 pub mod Example
+pub mod Files
 pub mod Placing
 pub mod Redoing
 pub mod Restored

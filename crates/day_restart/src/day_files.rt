@@ -1,10 +1,12 @@
 //! The files of a day's journals.
 
-ghost use Rattle.std.specs.Prelude.{◌≡◌, ◌+◌, ◌&&◌, ◌==◌, ◌<◌, [], None, Some, length, map, slice_get, true, IfErr, IfOk, MatchOption, Ok, Err};
+ghost use Rattle.std.specs.Prelude.{◌≡◌, ◌+◌, ◌&&◌, ◌==◌, ◌<◌, ◌∷◌, ◌++◌, [], None, Some, length, map, reverse, slice_get, string_bytes, true, IfErr, IfOk, MatchOption, Ok, Err};
 ghost use Rattle.std.specs.List.{AllZip, list_all};
 ghost use Rattle.std.specs.Option.{IsSomeAnd};
 ghost use Rattle.day_restart.specs.DayJournal.{GoesBehind};
 ghost use Rattle.day_restart.specs.Ending.{IsOpenFault, ended_at};
+ghost use Rattle.day_restart.specs.Files.{HasWords, desk_name};
+ghost use Rattle.day_restart.specs.Words.{desk_head, venue_head};
 
 use crate::day_journal::DayJournal;
 use crate::fault::RestartFault;
@@ -37,7 +39,10 @@ pub struct JournalNames {
 impl JournalNames {
     /// Those of a day of these venues.
     pub fn new(alloc: Global, day: Day, venues: &[Venue]) -> Result<JournalNames, AllocError>
-        ensures { IfOk result (λ names. length names.venues.items ≡ length venues.now) }
+        ensures length { IfOk result (λ names. length names.venues.items ≡ length venues.now) }
+        ensures desk { IfOk result (λ names. string_bytes names.desk ≡ desk_head day venues.now) }
+        ensures venues { IfOk result (λ names. map string_bytes names.venues.items
+            ≡ map (venue_head day) venues.now) }
     {
         let mut words = Vec::new(alloc);
         for venue in venues {
@@ -95,6 +100,32 @@ fn check_open(lines: &[Vec<u8>]) -> Result<(), RestartFault>
     }
 }
 
+/// Reads the journal of each venue, in order.
+fn read_venues<R: Files<File = File>>(
+    alloc: Global,
+    folder: &mut DayFolder<'_, R>,
+    names: &JournalNames,
+    venues: &[Venue],
+) -> Result<Vec<Found>, RestartFault>
+    requires names { length names.now.venues.items ≡ length venues.now }
+    ensures length { IfOk result (λ found. length found.items ≡ length venues.now) }
+    ensures names { IfOk result (λ _. map (λ r. r.name) folder.new.reads.journals
+        ≡ reverse (map (λ v. v.name) venues.now) ++ map (λ r. r.name) folder.old.reads.journals) }
+    ensures found { IfOk result (λ found. map (λ r. r.found) folder.new.reads.journals
+        ≡ reverse found.items ++ map (λ r. r.found) folder.old.reads.journals) }
+    ensures words { IfOk result (λ found. AllZip HasWords (map string_bytes names.now.venues.items) found.items) }
+    ensures fault { IfErr result IsOpenFault }
+{
+    let mut found = Vec::new(alloc);
+    for (place, venue) in venues.iter().enumerate() {
+        match folder.read(venue.name.as_str(), names.venues[place].as_str()) {
+            Ok(lines) => found.push(lines)?,
+            Err(fault) => return Err(venue_fault(&venue.name, fault)),
+        }
+    }
+    Ok(found)
+}
+
 /// The journal of a venue, which goes on behind these lines. Where there are some it is told that the connection of the
 /// life before is gone.
 fn behind<'a, R: Files<File = File> + Clock>(
@@ -128,10 +159,17 @@ impl<'a, R: Files<File = File> + Clock> DayFiles<'a, R> {
     ) -> Result<DayFiles<'a, R>, RestartFault>
         requires names { length names.now.venues.items ≡ length venues.now }
         ensures venues { IfOk result (λ files. length files.venues.items ≡ length venues.now) }
+        ensures names { IfOk result (λ files. map (λ r. r.name) files.folder.reads.journals
+            ≡ reverse (desk_name ∷ map (λ v. v.name) venues.now)) }
+        ensures found { IfOk result (λ files. map (λ r. r.found) files.folder.reads.journals
+            ≡ reverse (files.desk ∷ files.venues.items)) }
+        ensures desk_words { IfOk result (λ files. HasWords (string_bytes names.now.desk) files.desk) }
+        ensures venue_words { IfOk result (λ files. AllZip HasWords
+            (map string_bytes names.now.venues.items) files.venues.items) }
         ensures open { IfOk result (λ files. ended_at files.desk.lines ≡ None) }
         ensures fault { IfErr result IsOpenFault }
     {
-        let folder = match DayFolder::open(rt, alloc, path, durable) {
+        let mut folder = match DayFolder::open(rt, alloc, path, durable) {
             Ok(folder) => folder,
             Err(fault) => return Err(RestartFault::Folder(fault)),
         };
@@ -140,18 +178,12 @@ impl<'a, R: Files<File = File> + Clock> DayFiles<'a, R> {
             Err(fault) => return Err(RestartFault::Desk(fault)),
         };
         check_open(desk.lines())?;
-        let mut found = Vec::new(alloc);
-        for (place, venue) in venues.iter().enumerate() {
-            match folder.read(venue.name.as_str(), names.venues[place].as_str()) {
-                Ok(lines) => found.push(lines)?,
-                Err(fault) => return Err(venue_fault(&venue.name, fault)),
-            }
-        }
+        let venues = read_venues(alloc, &mut folder, names, venues)?;
         Ok(DayFiles {
             path,
             folder,
             desk,
-            venues: found,
+            venues,
         })
     }
 

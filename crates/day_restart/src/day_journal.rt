@@ -1,6 +1,6 @@
 //! The journal of a day.
 
-ghost use Rattle.std.specs.Prelude.{◌≡◌, [], MatchResult, Some};
+ghost use Rattle.std.specs.Prelude.{◌≡◌, [], length, MatchResult, Some};
 ghost use Rattle.journal_tape.specs.Told.{all_kept, no_lines};
 
 use crate::earlier::Earlier;
@@ -53,7 +53,8 @@ impl<'a, R: Files<File = File> + Clock> DayJournal<'a, R> {
         journal: FolderJournal<'a, R>,
         is_failing: Arc<AtomicBool, Global>,
     ) -> DayJournal<'a, R>
-        requires { journal.told.lines ≡ no_lines }
+        requires told { journal.told.lines ≡ no_lines }
+        requires behind { journal.before ≡ length found.now.lines }
         ensures { result ≡ record { kept = found.now.lines; unkept = [] } }
     {
         DayJournal {

@@ -6,6 +6,8 @@
 //!   (`PlacesAgain`). Each venue's start goes on from its lines (`GoesOn`): a worker that begins with it is what their
 //!   deeds, and the end of its connection, left of a new one. That is said where a worker may do these deeds.
 //! - What is told of the day is of those sweeps and starts (`TellsDay`). A refusal names a line that there is.
+//! - `DayFiles` has what was found under `desk` and under each venue's name, in their order, and under the words that
+//!   `JournalNames` makes of the day.
 //! - A journal goes on behind the lines that were found. A venue's is first told that its connection is gone.
 //! - The words in the heads of journals name the day, the desk, and of a venue its comp ids, its dialect and its terms.
 //! - Worked cases of `restored_desk` and `restored_session` compute.

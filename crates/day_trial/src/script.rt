@@ -87,6 +87,8 @@ impl Link for Script {
 
     fn heard(&mut self, _left: usize) {}
 
+    fn came_up(&mut self) {}
+
     fn write(&mut self, bytes: &[u8]) -> Result<usize, LinkFault> {
         match push_frame(&mut self.text, bytes) {
             Ok(()) => Ok(bytes.len()),

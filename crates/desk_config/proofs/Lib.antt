@@ -6,3 +6,4 @@ pub mod FieldsRead
 pub mod HostsRead
 pub mod DayParts
 pub mod SymbolsRead
+pub mod Terms

@@ -1,7 +1,7 @@
 -- The keys of the desk's file.
 use Rattle.std.specs.Prelude.{ℕ, List, ◌++◌, codes}
 use Rattle.desk_config.specs.declared.key.Key.{Key}
-use Rattle.desk_config.specs.declared.key.Key.TheVariants.{Venue, Sender, Callers, Log, Journal, Durable, Page, Token, Hosts, Name, Address, Target, Dialect, Words, Id, Mark, Price, Symbol, Order, Heartbeat, NextExpected, MaxNumber, Fill, LegShares, LegDollars, SweepDollars, DayDollars, Symbols}
+use Rattle.desk_config.specs.declared.key.Key.TheVariants.{Venue, Sender, Callers, Log, Journal, Durable, Page, Token, Hosts, Name, Address, Target, Dialect, Words, Id, Mark, Price, Symbol, Order, Heartbeat, NextExpected, Reopen, MaxNumber, Fill, LegShares, LegDollars, SweepDollars, DayDollars, Symbols}
 
 -- a key as the file spells it
 abbrev pub key_name : Key → List ℕ
@@ -26,6 +26,7 @@ key_name Symbol = codes "symbol"
 key_name Order = codes "order"
 key_name Heartbeat = codes "heartbeat"
 key_name NextExpected = codes "next_expected"
+key_name Reopen = codes "reopen"
 key_name MaxNumber = codes "max_number"
 key_name Fill = codes "fill"
 key_name LegShares = codes "leg_shares"
@@ -65,6 +66,7 @@ key_wants Symbol = codes "dot, slash, another mark from ! to /, or 55+65"
 key_wants Order = codes "an array of texts TAG=VALUE"
 key_wants Heartbeat = codes "1 to 3600"
 key_wants NextExpected = codes "true or false"
+key_wants Reopen = codes "true or false"
 key_wants MaxNumber = codes "16 to 999999999"
 key_wants Fill = codes "0 to 1000000"
 key_wants LegShares = codes "1 to 1000000"

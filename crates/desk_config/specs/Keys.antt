@@ -17,6 +17,7 @@ has_key Venue key =
     bytes_eq key (codes "name") || bytes_eq key (codes "address") || bytes_eq key (codes "target")
     || bytes_eq key (codes "sender") || bytes_eq key (codes "dialect") || bytes_eq key (codes "words")
     || bytes_eq key (codes "order") || bytes_eq key (codes "heartbeat") || bytes_eq key (codes "next_expected")
+    || bytes_eq key (codes "reopen")
     || bytes_eq key (codes "max_number") || bytes_eq key (codes "fill") || bytes_eq key (codes "leg_shares")
     || bytes_eq key (codes "leg_dollars")
 has_key Words key =

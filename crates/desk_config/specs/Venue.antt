@@ -53,12 +53,14 @@ unfoldable pub session_in : Data → Result SessionTerms Fault
 session_in given =
     and_then (value_at (number_within 1 3600) key.Heartbeat given) (λ heartbeat.
     and_then (value_at as_bool key.NextExpected given) (λ next.
+    and_then (value_at as_bool key.Reopen given) (λ reopen.
     and_then (value_at (number_within 16 999_999_999) key.MaxNumber given) (λ max.
     Ok (record {
       heartbeat = unwrap_or heartbeat 30;
       next_expected = unwrap_or next false;
+      reopen = unwrap_or reopen false;
       max_number = unwrap_or max 999_999_999;
-    }))))
+    })))))
 
 -- what a table says, where the desk has this comp id, or its first fault
 unfoldable pub venue_in : Option (List ℕ) → Data → Result Venue Fault

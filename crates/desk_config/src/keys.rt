@@ -72,6 +72,7 @@ fn is_venue_key(key: &str) -> bool
             | "order"
             | "heartbeat"
             | "next_expected"
+            | "reopen"
             | "max_number"
             | "fill"
             | "leg_shares"

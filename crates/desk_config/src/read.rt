@@ -65,9 +65,9 @@ fn read_table(alloc: Global, file: &Value) -> Result<DeskConfig, ConfigFault>
 /// `[desk]`, those of `[limits]`, and those of each `[[venue]]` in turn, by `sender`, `callers`, `log`, `journal`,
 /// `durable`, `page`, `token`, `hosts`; by `leg_shares`, `leg_dollars`, `sweep_dollars`, `day_dollars`, `symbols`; and
 /// by `name`, `address`, `fill`, `target`, `sender`, `dialect`, `words` with `id`, `mark`, `price` and `symbol`, the
-/// fields of `order`, `heartbeat`, `next_expected`, `max_number`, `leg_shares`, `leg_dollars`. In each table a key that
-/// it may not have comes first, and behind a venue's own keys that it has the name or the session of an earlier one.
-/// Last comes that a venue is called as the desk's journal is.
+/// fields of `order`, `heartbeat`, `next_expected`, `reopen`, `max_number`, `leg_shares`, `leg_dollars`. In each table
+/// a key that it may not have comes first, and behind a venue's own keys that it has the name or the session of an
+/// earlier one. Last comes that a venue is called as the desk's journal is.
 #[tactic(auto, using(crate::proofs::TextRead::answers_text))]
 pub fn read_config(alloc: Global, text: &str) -> Result<DeskConfig, ConfigFault>
     ensures says { AnswersText text.now result }

@@ -14,5 +14,7 @@ pub struct SessionTerms {
     pub heartbeat: Heartbeat,
     /// Whether each Logon says which number it expects next (789).
     pub next_expected: bool,
+    /// Whether the venue is dialled again after it logged out first.
+    pub reopen: bool,
     pub max_number: NumberLimit,
 }

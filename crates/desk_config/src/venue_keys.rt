@@ -65,10 +65,12 @@ fn session_in(table: &Value) -> Result<SessionTerms, Fault>
 {
     let heartbeat = value_at(table, Key::Heartbeat)?.unwrap_or(Heartbeat::of(HEARTBEAT));
     let next_expected = value_at(table, Key::NextExpected)?.unwrap_or(false);
+    let reopen = value_at(table, Key::Reopen)?.unwrap_or(false);
     let max_number = value_at(table, Key::MaxNumber)?.unwrap_or(NumberLimit::of(NUMBER_LIMIT));
     Ok(SessionTerms {
         heartbeat,
         next_expected,
+        reopen,
         max_number,
     })
 }

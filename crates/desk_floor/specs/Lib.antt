@@ -4,3 +4,4 @@ pub mod Standing
 pub mod Changes
 pub mod Legs
 pub mod Status
+pub mod Refused

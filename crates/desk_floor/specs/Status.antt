@@ -7,16 +7,18 @@ use Rattle.link.specs.declared.dial_error.DialError.{DialError}
 use Rattle.venue_board.specs.declared.progress.Progress.{Progress}
 use Rattle.desk_news.specs.declared.status.VenueStatus.{VenueStatus}
 use Rattle.desk_news.specs.declared.venue_state.VenueState.{VenueState}
+use Rattle.desk_floor.specs.declared.standing.Held.{Held}
 use Rattle.desk_floor.specs.declared.standing.Standing.{Standing}
 use Rattle.desk_floor.specs.Standing.{standing_of, state_of}
 
--- how a venue stands follows from what its worker told, from its gate and from the dial that failed last; of these
--- nothing is known
+-- how a venue stands follows from what its worker told, from its gate, from the dial that failed last and from whether
+-- a person holds it; of these nothing is known
 pub record IsSeen (standing : Standing) : Type 0 where
   pub progress : Progress
   pub is_shut : Bool
   pub error : Option DialError
-  pub is : standing ≡ standing_of progress is_shut error
+  pub held : Option Held
+  pub is : standing ≡ standing_of progress is_shut error held
 
 -- a state is told of how a venue stands, of the pause before its next dial, and of what it said as it logged out
 pub record IsState (state : VenueState) : Type 0 where

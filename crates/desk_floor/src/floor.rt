@@ -10,6 +10,7 @@ ghost use Rattle.desk_floor.specs.Status.{IsSeen};
 
 use crate::bells::Bells;
 use crate::counter::Counter;
+use crate::halt_mark::HaltMark;
 use crate::journal_watch::JournalWatch;
 use crate::refs::Refs;
 use crate::refusals::Refusals;
@@ -72,6 +73,8 @@ pub struct Floor<L: Run, M: Accounts, W: Write + Drop, J: Telling = Untold> {
     pub bells: Bells,
     /// What tells the workers to stop.
     pub stop: Stop,
+    /// What outlives the process of a desk that is halted, if it keeps a journal.
+    pub halt_mark: Option<HaltMark>,
     ghost few: { length names.items ≤ 16 },
     ghost tied: { L.sweeps ≡ M.sweeps },
 }
@@ -95,21 +98,21 @@ impl<L: Run, M: Accounts, W: Write + Drop, J: Telling> Floor<L, M, W, J> {
     {
         let venue = VenueId::new(u8::try_from(place).ok()?).ok()?;
         let view = self.views.get(place)?;
-        Some(view.seen(venue, self.lock.is_shut(venue)))
+        Some(view.seen(venue, self.lock.is_shut(venue), self.held(venue)))
     }
 
-    /// Whether each venue is up.
+    /// Whether each venue's session is up.
     fn are_up(&self) -> bool {
         for place in 0..self.names.len() {
             match self.seen(place) {
-                Some(seen) if seen.standing == Standing::Up => {}
+                Some(seen) if is_up(seen.standing) => {}
                 _ => return false,
             }
         }
         true
     }
 
-    /// Waits until each venue is up, but no longer than two seconds.
+    /// Waits until each venue's session is up, but no longer than two seconds.
     pub fn await_venues<R: Wait + Clock>(&self, rt: &R) {
         for _ in 0..LOOKS {
             if self.signals.is_ending() || self.are_up() {
@@ -252,6 +255,7 @@ impl<L: Run, M: Accounts, W: Write + Drop, J: Telling> Floor<L, M, W, J> {
             signals: _,
             bells: _,
             stop: _,
+            halt_mark: _,
         } = self;
         Left {
             names,
@@ -263,4 +267,9 @@ impl<L: Run, M: Accounts, W: Write + Drop, J: Telling> Floor<L, M, W, J> {
             },
         }
     }
+}
+
+/// Whether the session of a venue that stands so is up.
+fn is_up(standing: Standing) -> bool {
+    matches!(standing, Standing::Up | Standing::Held(_))
 }

@@ -2,7 +2,8 @@
 
 ghost use Rattle.std.specs.Prelude.{◌≡◌, ◌≤◌, ◌+◌, length, slice_get, IfOk};
 ghost use Rattle.sweep_release.specs.History.{KeptDesk};
-ghost use Rattle.release_lock.specs.Locked.{OnlyTurns, Replays};
+ghost use Rattle.release_lock.specs.Held.{OnlyLowers};
+ghost use Rattle.release_lock.specs.Locked.{Replays};
 ghost use Rattle.desk_floor.specs.Legs.{AreLegs, IsHalved, IsPaidLeg, IsStanding, is_before, one_of, paid_leg_in};
 ghost use Rattle.desk_floor.specs.Legs.{released_under};
 ghost use Rattle.desk_floor.specs.Standing.{leg_state_of};
@@ -111,7 +112,7 @@ fn leg_at(legs: &[Leg], place: usize, id: LegId) -> Result<Option<PlacedLeg>, Al
 /// venue are in the order of their numbers.
 fn released_leg(desk: &mut Desk, venue: VenueId, id: LegId) -> Result<Option<PlacedLeg>, AllocError>
     ensures value { IfOk result (λ found. found ≡ released_under desk.old.desk venue id) }
-    ensures turns { OnlyTurns desk.old desk.new }
+    ensures turns { OnlyLowers desk.old desk.new }
 {
     let legs = desk.released(venue);
     leg_at(legs, place_of(legs, id), id)

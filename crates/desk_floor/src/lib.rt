@@ -32,6 +32,9 @@
 //! - The entries of the book's history that a look goes through give exactly the sweeps that they are about
 //!   (`note_entries`, private), and so do the notes that it didn't take (`note_unbooked`, private). That each is gone
 //!   through once is only tested.
+//! - A halt puts each gate down that is up, and nothing else (`Floor::halt_desk`, private), and a pause that of one
+//!   venue. No gate of a venue that is held goes up (the lock's invariant, `release_lock`). How long the answer waits,
+//!   and that nothing is sent after it, is only tested.
 //! - The count of refused sweeps by their reasons, and the last of them, are only tested. So is how long a sweep waits
 //!   for room (`Floor::await_room`).
 //!
@@ -44,7 +47,9 @@ mod bells;
 mod changes;
 mod counter;
 mod floor;
+mod halt_mark;
 mod hand_in;
+mod holding;
 mod journal_watch;
 mod legs;
 mod refs;
@@ -60,12 +65,14 @@ pub use bells::Bells;
 pub use changes::Changes;
 pub use counter::Counter;
 pub use floor::{Floor, Left};
+pub use halt_mark::HaltMark;
+pub use holding::Stopped;
 pub use journal_watch::{JournalNews, JournalWatch};
 pub use legs::{LegStanding, sweep_legs};
 pub use refs::Refs;
 pub use refusals::{Refusals, RefusedCounts, RefusedSince};
 pub use signals::{Begun, Closing, Manner, Signals};
-pub use standing::Standing;
+pub use standing::{Held, Standing};
 pub use status::venue_status;
 pub use talk_fault::TalkFault;
 pub use venue_view::{Seen, VenueView};

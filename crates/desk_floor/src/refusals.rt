@@ -1,6 +1,8 @@
 //! The sweeps that were refused.
 
-ghost use Rattle.std.specs.Prelude.{◌≡◌};
+ghost use Rattle.std.specs.Prelude.{◌≡◌, IfOk};
+ghost use Rattle.std.specs.Option.{option_map};
+ghost use Rattle.desk_floor.specs.Refused.{KeepsLast, counted, counted_over, raised};
 
 use desk_answers::{Answer, Refusal};
 use desk_words::VenueName;
@@ -59,6 +61,13 @@ pub struct Refusals {
     kept: Mutex<Kept>,
 }
 
+/// One more.
+fn raise(count: &mut u64)
+    ensures { count.new ≡ raised count.old }
+{
+    *count = count.saturating_add(1);
+}
+
 /// The name of the same venue once more.
 fn copied(venue: &Option<VenueName>) -> Option<VenueName>
     ensures { result ≡ venue.now }
@@ -112,42 +121,49 @@ impl RefusedCounts {
         }
     }
 
-    /// The count of the limit that a sweep is over.
-    fn count_over(&mut self, over: &Over) -> &mut u64 {
+    /// Counts a sweep that is over this limit.
+    fn count_over(&mut self, over: &Over)
+        ensures { self.new ≡ counted_over self.old over.now }
+    {
         match over {
-            Over::LegShares { .. } => &mut self.leg_shares,
-            Over::LegDollars { .. } => &mut self.leg_dollars,
-            Over::SweepDollars { .. } => &mut self.sweep_dollars,
-            Over::DayDollars { .. } => &mut self.day_dollars,
-            Over::OtherSymbol { .. } => &mut self.other_symbol,
+            Over::LegShares { .. } => raise(&mut self.leg_shares),
+            Over::LegDollars { .. } => raise(&mut self.leg_dollars),
+            Over::SweepDollars { .. } => raise(&mut self.sweep_dollars),
+            Over::DayDollars { .. } => raise(&mut self.day_dollars),
+            Over::OtherSymbol { .. } => raise(&mut self.other_symbol),
         }
     }
 
-    /// The count of this reason; of a day that is closing where there is none.
-    fn count_of(&mut self, refusal: Option<&Refusal>) -> &mut u64 {
+    /// Counts one that is refused for this reason; or for none, since the day is closing.
+    fn count(&mut self, refusal: Option<&Refusal>)
+        ensures { self.new ≡ counted self.old (option_map (λ r. r.now) refusal.entry) }
+    {
         match refusal {
-            Some(Refusal::NoLegs) => &mut self.no_legs,
-            Some(Refusal::TooManyLegs) => &mut self.too_many_legs,
-            Some(Refusal::UnknownVenue) => &mut self.unknown_venue,
-            Some(Refusal::GateDown(_)) => &mut self.gate_down,
-            Some(Refusal::BacklogFull(_)) => &mut self.backlog_full,
-            Some(Refusal::SweepsSpent) => &mut self.sweeps_spent,
-            Some(Refusal::OutOfMemory) => &mut self.out_of_memory,
-            Some(Refusal::WrongBook) => &mut self.wrong_book,
-            Some(Refusal::OtherLegs) => &mut self.other_legs,
-            Some(Refusal::NoReference) => &mut self.no_reference,
+            Some(Refusal::NoLegs) => raise(&mut self.no_legs),
+            Some(Refusal::TooManyLegs) => raise(&mut self.too_many_legs),
+            Some(Refusal::UnknownVenue) => raise(&mut self.unknown_venue),
+            Some(Refusal::GateDown(_)) => raise(&mut self.gate_down),
+            Some(Refusal::BacklogFull(_)) => raise(&mut self.backlog_full),
+            Some(Refusal::SweepsSpent) => raise(&mut self.sweeps_spent),
+            Some(Refusal::OutOfMemory) => raise(&mut self.out_of_memory),
+            Some(Refusal::WrongBook) => raise(&mut self.wrong_book),
+            Some(Refusal::OtherLegs) => raise(&mut self.other_legs),
+            Some(Refusal::NoReference) => raise(&mut self.no_reference),
             Some(Refusal::OverLimit { over, .. }) => self.count_over(over),
-            None => &mut self.closing,
+            None => raise(&mut self.closing),
         }
     }
 }
 
 impl Kept {
     /// Counts a refusal, and keeps it if there is memory.
-    fn note(&mut self, refusal: Option<&Refusal>) {
-        let count = self.counts.count_of(refusal);
-        *count = count.saturating_add(1);
-        self.number = self.number.saturating_add(1);
+    fn note(&mut self, refusal: Option<&Refusal>)
+        ensures counts { self.new.counts ≡ counted self.old.counts (option_map (λ r. r.now) refusal.entry) }
+        ensures number { self.new.number ≡ raised self.old.number }
+        ensures last { KeepsLast 64 (option_map (λ r. r.now) refusal.entry) self.old.last.items self.new.last.items }
+    {
+        self.counts.count(refusal);
+        raise(&mut self.number);
         if self.last.len() >= MOST_KEPT {
             self.last.pop_front();
         }
@@ -155,7 +171,9 @@ impl Kept {
     }
 
     /// What was refused since so many were.
-    fn since(&self, alloc: Global, number: u64) -> Result<RefusedSince, AllocError> {
+    fn since(&self, alloc: Global, number: u64) -> Result<RefusedSince, AllocError>
+        ensures { IfOk result (λ since. since.number ≡ self.now.number) }
+    {
         let new = self.number.saturating_sub(number);
         let skipped = (self.last.len() as u64).saturating_sub(new);
         let mut refusals = Vec::new(alloc);

@@ -4,6 +4,7 @@ ghost use Rattle.std.specs.Prelude.{◌≡◌};
 ghost use Rattle.desk_news.specs.declared.cause.Cause.TheVariants.{Lost};
 ghost use Rattle.desk_words.specs.Printable.{shown};
 ghost use Rattle.desk_floor.specs.Standing.{cause_of, dial_text, ending_of, ends_by_logout, is_logout, standing_of, state_of};
+ghost use Rattle.desk_floor.specs.Standing.{up_or_held};
 
 use desk_news::{Cause, Told, VenueState};
 use desk_words::shown;
@@ -11,12 +12,23 @@ use link::DialError;
 use session_core::Ended;
 use venue_board::{Loss, Progress};
 
+/// By what a person holds a venue, whose session stays up meanwhile.
+#[derive(Clone, Copy, Debug, PartialEq, Eq)]
+pub enum Held {
+    /// The venue is paused.
+    Paused,
+    /// The desk is halted.
+    Halted,
+}
+
 /// How a venue stands.
 #[derive(Clone, Copy, Debug, PartialEq, Eq)]
 pub enum Standing {
     /// It was neither up yet nor has a dial failed.
     Dialled,
     Up,
+    /// Its session is up, but a person holds it.
+    Held(Held),
     /// Its connection ended so, and is dialled again.
     Down(Loss),
     /// The last dial failed so.
@@ -27,7 +39,7 @@ pub enum Standing {
     Closing,
 }
 
-/// Whether the exchange logged out: its session is over then, though its gate may be shut a moment later.
+/// Whether the exchange logged out for the day: its session is over then, though its gate may be shut a moment later.
 fn is_logout(loss: Loss) -> bool
     ensures { result ≡ is_logout loss }
 {
@@ -39,20 +51,36 @@ fn is_logout(loss: Loss) -> bool
         Loss::WriteFailed => false,
         Loss::OutOfMemory => false,
         Loss::NumbersSpent => false,
+        Loss::Parted => false,
     }
 }
 
-/// How a venue stands whose worker told this, and whose gate is shut or not. A dial that failed for a reason which
-/// isn't known failed otherwise than for those that have a name.
-pub fn standing_of(progress: Progress, is_shut: bool, error: Option<DialError>) -> Standing
-    ensures { result ≡ standing_of progress is_shut error }
+/// How a venue stands whose session is up.
+fn up_or_held(held: Option<Held>) -> Standing
+    ensures { result ≡ up_or_held held }
+{
+    match held {
+        Some(held) => Standing::Held(held),
+        None => Standing::Up,
+    }
+}
+
+/// How a venue stands whose worker told this, whose gate is shut or not, and that a person holds or doesn't. A dial
+/// that failed for a reason which isn't known failed otherwise than for those that have a name.
+pub fn standing_of(
+    progress: Progress,
+    is_shut: bool,
+    error: Option<DialError>,
+    held: Option<Held>,
+) -> Standing
+    ensures { result ≡ standing_of progress is_shut error held }
 {
     match progress {
         Progress::Down(loss) if is_shut || is_logout(loss) => Standing::Closed(loss),
         Progress::Down(loss) => Standing::Down(loss),
         _ if is_shut => Standing::Closing,
         Progress::Dialled => Standing::Dialled,
-        Progress::Up => Standing::Up,
+        Progress::Up => up_or_held(held),
         Progress::Unreachable => Standing::Unreachable(error.unwrap_or(DialError::Other)),
     }
 }
@@ -99,6 +127,7 @@ fn cause_of(loss: Loss, said: Option<Told>) -> Cause
         Loss::WriteFailed => lost(b"write failed"),
         Loss::OutOfMemory => lost(b"out of memory"),
         Loss::NumbersSpent => lost(b"no number is left for a logon"),
+        Loss::Parted => ending_of(Ended::PeerLogout, said),
     }
 }
 
@@ -111,6 +140,7 @@ fn dial_text(error: DialError) -> Told
         DialError::TimedOut => told(b"timed out"),
         DialError::HostUnreachable => told(b"host unreachable"),
         DialError::NetworkUnreachable => told(b"network unreachable"),
+        DialError::NoSuchHost => told(b"no such host"),
         DialError::Other => told(b"dial failed"),
     }
 }
@@ -124,6 +154,8 @@ impl Standing {
         match self {
             Standing::Dialled => VenueState::Dialled,
             Standing::Up => VenueState::Up,
+            Standing::Held(Held::Paused) => VenueState::Down(lost(b"paused")),
+            Standing::Held(Held::Halted) => VenueState::Down(lost(b"halted")),
             Standing::Down(loss) => VenueState::Down(cause_of(loss, said)),
             Standing::Unreachable(error) => VenueState::Unreachable {
                 why: dial_text(error),

@@ -1,7 +1,8 @@
 //! How a venue stands, as a desk asks.
 
 ghost use Rattle.std.specs.Prelude.{◌≡◌, length};
-ghost use Rattle.release_lock.specs.Locked.{OnlyTurns, Replays};
+ghost use Rattle.release_lock.specs.Held.{OnlyLowers};
+ghost use Rattle.release_lock.specs.Locked.{Replays};
 ghost use Rattle.sweep_release.specs.History.{KeptDesk};
 ghost use Rattle.sweep_release.specs.Released.{released};
 ghost use Rattle.desk_floor.specs.Status.{IsTold};
@@ -19,7 +20,7 @@ use sweep_release::Desk;
 /// How many legs were released to a venue.
 fn released_to(desk: &mut Desk, venue: VenueId) -> u64
     ensures value { result ≡ length (released venue desk.old.desk.sweeps) }
-    ensures turns { OnlyTurns desk.old desk.new }
+    ensures turns { OnlyLowers desk.old desk.new }
 {
     desk.released(venue).len() as u64
 }
@@ -49,6 +50,7 @@ pub fn venue_status<L: Run, M: Accounts, W: Write + Drop, J: Telling>(
         unsent: released.saturating_sub(seen.taken),
         doubt: seen.doubts,
         lost,
+        contradicted: view.contradicted_legs(),
         state: seen.standing.state(seen.seconds, view.said(rt)),
     })
 }

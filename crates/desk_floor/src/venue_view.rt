@@ -3,7 +3,7 @@
 ghost use Rattle.std.specs.Prelude.{◌≡◌};
 ghost use Rattle.desk_floor.specs.Status.{IsSeen};
 
-use crate::standing::{Standing, standing_of};
+use crate::standing::{Held, Standing, standing_of};
 use clock::Clock;
 use day_log::{Traffic, VenueLog};
 use desk_news::Told;
@@ -85,6 +85,11 @@ impl VenueView {
         self.board.withdrawn()
     }
 
+    /// On how many legs the exchange contradicted itself: the book has reports on them, and refused to withdraw them.
+    pub fn contradicted_legs(&self) -> u64 {
+        self.board.refused()
+    }
+
     /// Up to which of them none is in doubt.
     pub fn settled(&self) -> u64 {
         self.board.settled()
@@ -120,15 +125,15 @@ impl VenueView {
         self.traffic.logout_text().now(rt)
     }
 
-    /// What is seen of the venue of this number now, whose gate is shut or not.
-    pub fn seen(&self, venue: VenueId, is_shut: bool) -> Seen
+    /// What is seen of the venue of this number now, whose gate is shut or not, and that a person holds or doesn't.
+    pub fn seen(&self, venue: VenueId, is_shut: bool, held: Option<Held>) -> Seen
         ensures venue { result.venue ≡ venue }
         ensures standing { IsSeen result.standing }
     {
         let board = &self.board;
         Seen {
             venue,
-            standing: standing_of(board.progress(), is_shut, self.last_dial.error()),
+            standing: standing_of(board.progress(), is_shut, self.last_dial.error(), held),
             seconds: board.pause().div_ceil(SECOND),
             taken: board.taken(),
             doubts: board.doubts(),

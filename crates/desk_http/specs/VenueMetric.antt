@@ -8,7 +8,7 @@ use Rattle.desk_json.specs.declared.standing.OrderWaits.{OrderWaits}
 use Rattle.desk_json.specs.declared.standing.WaitCount.{WaitCount}
 use Rattle.desk_json.specs.Venues.{accepted}
 use Rattle.desk_http.specs.declared.venue_metric.VenueMetric.{VenueMetric}
-use Rattle.desk_http.specs.declared.venue_metric.VenueMetric.TheVariants.{State, Legs, Unbooked, LinesLost, Connections, FailedDials, Messages, Bytes, Waits}
+use Rattle.desk_http.specs.declared.venue_metric.VenueMetric.TheVariants.{State, Legs, Unbooked, Contradicted, LinesLost, Connections, FailedDials, Messages, Bytes, Waits}
 use Rattle.desk_http.specs.MetricText.{metric_head, seconds_text}
 
 -- the name of a metric
@@ -16,6 +16,7 @@ abbrev pub venue_name : VenueMetric → List ℕ
 venue_name State = codes "dispatch_venue_state"
 venue_name Legs = codes "dispatch_legs"
 venue_name Unbooked = codes "dispatch_unbooked_reports_total"
+venue_name Contradicted = codes "dispatch_contradicted_legs_total"
 venue_name LinesLost = codes "dispatch_log_lines_lost_total"
 venue_name Connections = codes "dispatch_connections_total"
 venue_name FailedDials = codes "dispatch_failed_dials_total"
@@ -28,6 +29,7 @@ abbrev pub venue_help : VenueMetric → List ℕ
 venue_help State = codes "Whether the venue is in this state: 1 or 0."
 venue_help Legs = codes "Legs of the venue, by their state."
 venue_help Unbooked = codes "Reports of the venue that the book didn't take."
+venue_help Contradicted = codes "Legs that the venue reported on and showed later not to have."
 venue_help LinesLost = codes "Lines that the log of the venue lost."
 venue_help Connections = codes "Connections to the venue in this day."
 venue_help FailedDials = codes "Dials of the venue that failed."
@@ -40,6 +42,7 @@ abbrev pub venue_kind : VenueMetric → List ℕ
 venue_kind State = codes "gauge"
 venue_kind Legs = codes "gauge"
 venue_kind Unbooked = codes "counter"
+venue_kind Contradicted = codes "counter"
 venue_kind LinesLost = codes "counter"
 venue_kind Connections = codes "counter"
 venue_kind FailedDials = codes "counter"
@@ -134,6 +137,8 @@ abbrev pub samples : VenueMetric → VenueRow → List ℕ
 samples State row = states_samples row.status.venue (state_word row.status.state)
 samples Legs row = legs_samples row
 samples Unbooked row = unbooked_samples row
+samples Contradicted row =
+    venue_sample (codes "dispatch_contradicted_legs_total") row.status.venue [] row.status.contradicted
 samples LinesLost row = venue_sample (codes "dispatch_log_lines_lost_total") row.status.venue [] row.status.lost
 samples Connections row = venue_sample (codes "dispatch_connections_total") row.status.venue [] row.connections
 samples FailedDials row = venue_sample (codes "dispatch_failed_dials_total") row.status.venue [] row.refused_dials
@@ -155,6 +160,6 @@ metric_text metric rows =
 -- each metric of venues
 unfoldable pub venues_text : List VenueRow → List ℕ
 venues_text rows =
-    metric_text State rows ++ metric_text Legs rows ++ metric_text Unbooked rows ++ metric_text LinesLost rows
-    ++ metric_text Connections rows ++ metric_text FailedDials rows ++ metric_text Messages rows
-    ++ metric_text Bytes rows ++ metric_text Waits rows
+    metric_text State rows ++ metric_text Legs rows ++ metric_text Unbooked rows ++ metric_text Contradicted rows
+    ++ metric_text LinesLost rows ++ metric_text Connections rows ++ metric_text FailedDials rows
+    ++ metric_text Messages rows ++ metric_text Bytes rows ++ metric_text Waits rows

@@ -18,6 +18,7 @@ enum VenueMetric {
     State,
     Legs,
     Unbooked,
+    Contradicted,
     LinesLost,
     Connections,
     FailedDials,
@@ -34,6 +35,7 @@ fn venue_name(metric: VenueMetric) -> &'static str
         VenueMetric::State => "dispatch_venue_state",
         VenueMetric::Legs => "dispatch_legs",
         VenueMetric::Unbooked => "dispatch_unbooked_reports_total",
+        VenueMetric::Contradicted => "dispatch_contradicted_legs_total",
         VenueMetric::LinesLost => "dispatch_log_lines_lost_total",
         VenueMetric::Connections => "dispatch_connections_total",
         VenueMetric::FailedDials => "dispatch_failed_dials_total",
@@ -51,6 +53,8 @@ fn venue_help(metric: VenueMetric) -> &'static str
         VenueMetric::State => "Whether the venue is in this state: 1 or 0.",
         VenueMetric::Legs => "Legs of the venue, by their state.",
         VenueMetric::Unbooked => "Reports of the venue that the book didn't take.",
+        VenueMetric::Contradicted =>
+            "Legs that the venue reported on and showed later not to have.",
         VenueMetric::LinesLost => "Lines that the log of the venue lost.",
         VenueMetric::Connections => "Connections to the venue in this day.",
         VenueMetric::FailedDials => "Dials of the venue that failed.",
@@ -68,6 +72,7 @@ fn venue_kind(metric: VenueMetric) -> &'static str
         VenueMetric::State => "gauge",
         VenueMetric::Legs => "gauge",
         VenueMetric::Unbooked => "counter",
+        VenueMetric::Contradicted => "counter",
         VenueMetric::LinesLost => "counter",
         VenueMetric::Connections => "counter",
         VenueMetric::FailedDials => "counter",
@@ -253,6 +258,10 @@ fn write_samples(text: &mut String, metric: VenueMetric, venue: &VenueRow) -> Re
         VenueMetric::State => write_states(text, name, state_word(&venue.status.state)),
         VenueMetric::Legs => write_legs(text, venue),
         VenueMetric::Unbooked => write_unbooked(text, venue),
+        VenueMetric::Contradicted => {
+            let metric = "dispatch_contradicted_legs_total";
+            write_sample(text, metric, name, "", venue.status.contradicted)
+        }
         VenueMetric::LinesLost => {
             let metric = "dispatch_log_lines_lost_total";
             write_sample(text, metric, name, "", venue.status.lost)
@@ -313,6 +322,7 @@ pub(crate) fn write_venues(text: &mut String, venues: &[VenueRow]) -> Result<(),
     write_metric(text, VenueMetric::State, venues)?;
     write_metric(text, VenueMetric::Legs, venues)?;
     write_metric(text, VenueMetric::Unbooked, venues)?;
+    write_metric(text, VenueMetric::Contradicted, venues)?;
     write_metric(text, VenueMetric::LinesLost, venues)?;
     write_metric(text, VenueMetric::Connections, venues)?;
     write_metric(text, VenueMetric::FailedDials, venues)?;

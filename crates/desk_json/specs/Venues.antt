@@ -90,7 +90,9 @@ unfoldable pub leg_counts_json : VenueRow → List ℕ
 leg_counts_json venue =
     codes ",\"unsent\":" ++ decimal venue.status.unsent ++ codes ",\"doubt\":" ++ decimal venue.status.doubt
     ++ codes ",\"settled\":" ++ decimal venue.settled ++ codes ",\"accepted\":" ++ decimal (accepted venue)
-    ++ codes ",\"withdrawn\":" ++ decimal venue.withdrawn ++ codes ",\"lost\":" ++ decimal venue.status.lost
+    ++ codes ",\"withdrawn\":" ++ decimal venue.withdrawn
+    ++ codes ",\"contradicted\":" ++ decimal venue.status.contradicted
+    ++ codes ",\"lost\":" ++ decimal venue.status.lost
 
 -- the counts of what went both ways, with the key of what stands behind them
 unfoldable pub traffic_json : VenueRow → List ℕ

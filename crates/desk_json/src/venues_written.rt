@@ -155,14 +155,16 @@ fn write_leg_counts(text: &mut String, venue: &VenueRow) -> Result<(), AllocErro
     let accepted = venue.accepted();
     let withdrawn = venue.withdrawn;
     let lost = venue.status.lost;
+    let contradicted = venue.status.contradicted;
     write!(
         text,
         ",\"unsent\":{unsent},\"doubt\":{doubt},\"settled\":{settled}"
     )?;
     write!(
         text,
-        ",\"accepted\":{accepted},\"withdrawn\":{withdrawn},\"lost\":{lost}"
-    )
+        ",\"accepted\":{accepted},\"withdrawn\":{withdrawn},\"contradicted\":{contradicted}"
+    )?;
+    write!(text, ",\"lost\":{lost}")
 }
 
 /// Appends the counts of what went both ways, and the key of what stands behind them.

@@ -15,6 +15,9 @@ pub enum News {
     Sweep(PaidSweep),
     /// A venue stands otherwise than before; so it is never told that one is dialled, with which each day begins.
     Venue { venue: VenueName, state: VenueState },
+    /// A venue's exchange contradicted itself, on so many legs by now: it reported on them, and showed later that it
+    /// hadn't taken them. The book keeps the reports.
+    Contradicted { venue: VenueName, legs: u64 },
 }
 
 impl fmt::Display for News {
@@ -24,6 +27,7 @@ impl fmt::Display for News {
         match self {
             News::Sweep(sweep) => write!(f, "{sweep}"),
             News::Venue { venue, state } => write!(f, "venue {venue} {state}"),
+            News::Contradicted { venue, legs } => write!(f, "contradicted {venue} legs {legs}"),
         }
     }
 }

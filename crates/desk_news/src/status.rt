@@ -1,7 +1,7 @@
 //! How venues and sweeps stand, as `status` asks.
 
 ghost use Rattle.std.specs.Prelude.{Some};
-ghost use Rattle.desk_news.specs.Status.{status_text, venue_status_text};
+ghost use Rattle.desk_news.specs.Status.{contradicted_text, status_text, venue_status_text};
 
 use crate::paid::PaidSweep;
 use crate::venue_state::VenueState;
@@ -18,6 +18,9 @@ pub struct VenueStatus {
     pub doubt: u64,
     /// How many lines of its log were lost.
     pub lost: u64,
+    /// On how many legs its exchange contradicted itself: it reported on them, and showed later that it hadn't taken
+    /// them.
+    pub contradicted: u64,
     pub state: VenueState,
 }
 
@@ -26,6 +29,22 @@ pub struct VenueStatus {
 pub enum Status {
     Venue(VenueStatus),
     Sweep(PaidSweep),
+}
+
+/// The legs on which an exchange contradicted itself, where there are some.
+#[derive(Clone, Copy)]
+struct ContradictedText(u64);
+
+impl fmt::Display for ContradictedText {
+    ghost output = { λ text. Some (contradicted_text text.0) };
+
+    fn fmt<W: fmt::Write>(&self, f: &mut fmt::Formatter<W>) -> fmt::Result {
+        let legs = self.0;
+        if legs == 0 {
+            return Ok(());
+        }
+        write!(f, " contradicted {legs}")
+    }
 }
 
 impl fmt::Display for VenueStatus {
@@ -37,11 +56,13 @@ impl fmt::Display for VenueStatus {
             unsent,
             doubt,
             lost,
+            contradicted,
             state,
         } = self;
+        let contradicted = ContradictedText(*contradicted);
         write!(
             f,
-            "venue {venue} unsent {unsent} doubt {doubt} lost {lost} {state}"
+            "venue {venue} unsent {unsent} doubt {doubt} lost {lost}{contradicted} {state}"
         )
     }
 }

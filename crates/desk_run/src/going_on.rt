@@ -19,10 +19,11 @@ use day_restart::{
     RestoredDay, VenuePast, restore_day,
 };
 use desk_config::{Durable, Venue};
-use desk_floor::{JournalWatch, Refs};
+use desk_floor::{HaltMark, JournalWatch, Refs};
 use desk_venues::DayFault;
 use desk_words::{VenueName, shown};
 use exec_collector::Accounts;
+use journal_folder::FolderFault;
 use release_lock::Run;
 use std::alloc::{AllocError, Global};
 use std::collections::VecDeque;
@@ -206,6 +207,21 @@ fn watched(
     Ok(watched)
 }
 
+/// What tells whether the desk is halted, in the folder of its journals.
+fn halt_mark<R: Files<File = File>>(
+    rt: &R,
+    alloc: Global,
+    folder: &str,
+) -> Result<HaltMark, DayFault>
+    ensures { IfErr result IsNoMismatch }
+{
+    let path = format!(in alloc; "{folder}/halted")?;
+    match HaltMark::open(rt, path.as_str()) {
+        Ok(mark) => Ok(mark),
+        Err(_) => Err(refused(alloc, folder, RestartFault::Folder(FolderFault::NoFolder))),
+    }
+}
+
 /// What a day goes on with, and its journals, each behind its lines.
 pub(crate) fn past_of<'a, R: Files<File = File> + Clock>(
     rt: &'a R,
@@ -224,6 +240,8 @@ pub(crate) fn past_of<'a, R: Files<File = File> + Clock>(
         past.venues.items) }
     ensures only { IfErr result IsNoMismatch }
 {
+    // The mark is made before the journals' files, with which its folder is put on the disk.
+    let halt_mark = halt_mark(rt, alloc, at.folder)?;
     let DayJournals {
         desk,
         venues: journals,
@@ -238,5 +256,6 @@ pub(crate) fn past_of<'a, R: Files<File = File> + Clock>(
         desk,
         venues: journals,
         watched: watched(alloc, venues, failing)?,
+        halt_mark: Some(halt_mark),
     })
 }

@@ -14,7 +14,9 @@ ghost use Rattle.desk_run.specs.Seats.{shared_parts};
 
 use clock::UtcClock;
 use desk_config::Venue;
-use desk_floor::{Bells, Counter, Floor, JournalWatch, Manner, Refs, Refusals, Signals, Voice};
+use desk_floor::{
+    Bells, Counter, Floor, HaltMark, JournalWatch, Manner, Refs, Refusals, Signals, Voice,
+};
 use desk_serve::PageServer;
 use desk_threads::Cast;
 use desk_venues::{
@@ -81,6 +83,8 @@ pub struct Past<J: Telling> {
     pub venues: Vec<J>,
     /// Whether each of them is written.
     pub watched: Vec<JournalWatch>,
+    /// What tells whether the desk was halted, beside the journals.
+    pub halt_mark: Option<HaltMark>,
 }
 
 impl Past<Untold> {
@@ -98,6 +102,7 @@ impl Past<Untold> {
             desk: Untold,
             venues: journals,
             watched: Vec::new(alloc),
+            halt_mark: None,
         })
     }
 }
@@ -230,6 +235,7 @@ where
         desk: journal,
         venues: journals,
         watched,
+        halt_mark,
     } = past;
     let OpenVenues {
         sight,
@@ -254,7 +260,7 @@ where
         names,
         views,
         manner,
-        lock: ReleaseLock::of_locked(alloc, desk.noting_in(journal))?,
+        lock: lock_again(rt, alloc, desk.noting_in(journal), &halt_mark)?,
         collector,
         shared,
         limits,
@@ -267,6 +273,7 @@ where
         signals,
         bells,
         stop: Stop::new(),
+        halt_mark,
     };
     let cast = Cast {
         exchanges,
@@ -275,6 +282,22 @@ where
         writers,
     };
     Ok(OpenDay { floor, cast, seat })
+}
+
+/// The desk behind its lock, halted if it was in the life before, or if that can't be told.
+fn lock_again<L: Run, J: Telling>(
+    rt: &impl Wait,
+    alloc: Global,
+    desk: LockedDesk<L, J>,
+    halt_mark: &Option<HaltMark>,
+) -> Result<ReleaseLock<L, J>, AllocError> {
+    let lock = ReleaseLock::of_locked(alloc, desk)?;
+    if let Some(mark) = halt_mark {
+        if mark.is_set().unwrap_or(true) {
+            lock.halt(rt);
+        }
+    }
+    Ok(lock)
 }
 
 /// Adds what ends the wait of who takes input: the caller for lines, or a server for clients.

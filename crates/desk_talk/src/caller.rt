@@ -2,6 +2,8 @@
 
 ghost use Rattle.std.specs.Prelude.{◌≡◌, IfSome};
 
+use crate::hold::{Hold, hold_of};
+use crate::hold_answer::HoldAnswer;
 use crate::input_lines::{InputLines, Next};
 use crate::open_sweeps::OpenSweeps;
 use crate::status::tell_status;
@@ -9,8 +11,10 @@ use clock::UtcClock;
 use day_log::LineLog;
 use desk_answers::Answer;
 use desk_floor::{Floor, TalkFault};
+use desk_words::VenueName;
 use exec_collector::Accounts;
 use kept_link::Telling;
+use leg::VenueId;
 use release_lock::{CallerSeat, Run};
 use std::alloc::Global;
 use std::io::{Read, Write};
@@ -167,6 +171,14 @@ where
     ensures { seat.new.parts ≡ seat.old.parts }
 {
     let line = lines.line();
+    if let Some(asked) = hold_of(floor.names.as_slice(), line) {
+        let held = hold(rt, floor, asked);
+        log.taken(line);
+        return match held {
+            Some(held) => floor.answer(rt, log, &held),
+            None => Ok(()),
+        };
+    }
     match read_line(alloc, floor.names.as_slice(), line) {
         Ok(Command::Sweep(submission)) => {
             if floor.manner.waits {
@@ -195,4 +207,49 @@ where
             floor.answer(rt, log, &Answer::BadLine { number, fault })
         }
     }
+}
+
+/// Holds or frees, and gives what that is answered; none where the desk has no such venue.
+fn hold<'f, L: Run, M: Accounts, W: Write + Drop, J: Telling, R: Wait + Clock>(
+    rt: &R,
+    floor: &'f Floor<L, M, W, J>,
+    asked: Hold,
+) -> Option<HoldAnswer<'f>> {
+    match asked {
+        Hold::Halt => {
+            let stopped = floor.halt(rt);
+            match stopped.sending {
+                Some(venue) => Some(HoldAnswer::Halting(name_of(floor, venue)?)),
+                None if stopped.is_kept => Some(HoldAnswer::Halted),
+                None => Some(HoldAnswer::HaltedUnkept),
+            }
+        }
+        Hold::Resume => {
+            if floor.resume(rt) {
+                Some(HoldAnswer::Resumed)
+            } else {
+                Some(HoldAnswer::ResumedUnkept)
+            }
+        }
+        Hold::Pause(venue) => {
+            let name = name_of(floor, venue)?;
+            match floor.pause(rt, venue).sending {
+                Some(venue) => Some(HoldAnswer::Pausing(name_of(floor, venue)?)),
+                None => Some(HoldAnswer::Paused(name)),
+            }
+        }
+        Hold::Unpause(venue) => {
+            let name = name_of(floor, venue)?;
+            floor.unpause(rt, venue);
+            Some(HoldAnswer::Unpaused(name))
+        }
+    }
+}
+
+/// The name of a venue, if the desk has it.
+fn name_of<L: Run, M: Accounts, W: Write + Drop, J: Telling>(
+    floor: &Floor<L, M, W, J>,
+    venue: VenueId,
+) -> Option<&VenueName> {
+    floor.names.get(usize::from(venue.number()))
 }

@@ -15,6 +15,8 @@
 
 mod caller;
 mod executions;
+mod hold;
+mod hold_answer;
 mod input_lines;
 mod keeper;
 mod news;

@@ -31,6 +31,8 @@ pub struct Told {
     tells_news: bool,
     // Whether each journal was told to be failing.
     journals: Vec<bool>,
+    // On how many legs each venue was told to contradict itself.
+    contradicted: Vec<u64>,
 }
 
 /// The news of how a venue stands, where the pause before its next dial lasts so many seconds, and the venue said this
@@ -46,6 +48,16 @@ fn venue_news(
     News::Venue {
         venue: name.clone().unwrap(),
         state: standing.state(seconds, said),
+    }
+}
+
+/// The news that a venue's exchange contradicted itself on so many legs.
+fn contradicted_news(name: &VenueName, legs: u64) -> News
+    ensures { result ≡ news.Contradicted name.now legs }
+{
+    News::Contradicted {
+        venue: name.clone().unwrap(),
+        legs,
     }
 }
 
@@ -89,6 +101,7 @@ impl Told {
             executions: ToldExecutions::new(alloc, manner.tells_executions),
             tells_news: manner.tells_news,
             journals: Vec::new(alloc),
+            contradicted: Vec::new(alloc),
         }
     }
 
@@ -146,6 +159,30 @@ impl Told {
         Ok(())
     }
 
+    /// Tells each venue whose exchange contradicted itself on more legs. What wasn't told for lack of memory is told
+    /// the next time.
+    fn tell_contradictions<L: Run, M: Accounts, W: Write + Drop, J: Telling>(
+        &mut self,
+        rt: &impl Wait,
+        floor: &Floor<L, M, W, J>,
+    ) -> Result<(), TalkFault> {
+        for _ in self.contradicted.len()..floor.views.len() {
+            self.contradicted.push(0)?;
+        }
+        for (place, told) in self.contradicted.iter_mut().enumerate() {
+            let (Some(name), Some(view)) = (floor.names.get(place), floor.views.get(place)) else {
+                continue;
+            };
+            let legs = view.contradicted_legs();
+            if legs == *told {
+                continue;
+            }
+            floor.voice.say(rt, &contradicted_news(name, legs))?;
+            *told = legs;
+        }
+        Ok(())
+    }
+
     /// Tells each sweep that stands otherwise.
     fn tell_sweeps<L: Run, M: Accounts, W: Write + Drop, J: Telling>(
         &mut self,
@@ -159,6 +196,7 @@ impl Told {
             executions: _,
             tells_news: _,
             journals: _,
+            contradicted: _,
         } = self;
         changes.look(rt, &floor.collector)?;
         for number in changes.sweeps() {
@@ -185,6 +223,7 @@ impl Told {
         floor: &Floor<L, M, W, J>,
     ) -> Result<(), TalkFault> {
         self.tell_journals(rt, floor)?;
+        self.tell_contradictions(rt, floor)?;
         if self.tells_news && !floor.signals.are_stopped() {
             self.tell_venues(rt, floor)?;
         }

@@ -1,37 +1,43 @@
 -- Where the exchanges of a day's venues are dialled.
-use Rattle.std.specs.Prelude.{List, [], ◌∷◌, ◌++◌, Option, Some, None, option_to_list}
-use Rattle.std.specs.Net.Grammar.{IsIpText}
-use Rattle.std.specs.Net.ToAddrs.{IsHostAndPort}
-use Rattle.std.specs.declared.net.ip_addr.IpAddr.{IpAddr}
+use Rattle.std.specs.Prelude.{◌≡◌, List, [], ◌∷◌, ◌++◌, Option, Some, None, option_to_list}
 use Rattle.std.specs.declared.net.socket_addr.SocketAddr.{SocketAddr}
 use Rattle.desk_config.specs.declared.address.Address.{Address}
 use Rattle.desk_config.specs.declared.endpoint.Endpoint.{Endpoint}
-use Rattle.desk_config.specs.declared.endpoint.Endpoint.TheVariants.{At, Simulated}
+use Rattle.desk_config.specs.declared.endpoint.Endpoint.TheVariants as of
 use Rattle.desk_config.specs.declared.venue.Venue.{Venue}
+use Rattle.link.specs.Hosts.{HostParts}
+use Rattle.link.specs.declared.goal.Goal.{Goal}
+use Rattle.link.specs.declared.goal.Goal.TheVariants.{At, Hosts}
 
--- a host that is written as an IP stands for this IP, with the port; what a name stands for is the system's answer
-abbrev pub StandsFor : Address → SocketAddr → Type 0
-StandsFor address addr = (ip : IpAddr) → IsIpText address.host ip → IsHostAndPort address.host address.port addr
+-- an address of the file, as a host to dial
+abbrev pub host_of : Address → HostParts
+host_of address = record { name = address.host; port = address.port }
 
--- a venue's exchange is dialled at this address; where it is simulated, wherever it listens
-abbrev pub IsAt : Endpoint → SocketAddr → Type 0
-IsAt (At address) addr = StandsFor address addr
-IsAt (Simulated fill) addr = Unit {0}
+-- the hosts of a goal, if it has any
+abbrev pub hosts_in : Goal → Option (List HostParts)
+hosts_in (At addr) = None
+hosts_in (Hosts hosts) = Some hosts.items
+
+-- a venue's exchange is dialled there: at the host of its address; where it is simulated, wherever it listens
+abbrev pub IsAt : Endpoint → Goal → Type 0
+IsAt (of.At address) goal = hosts_in goal ≡ Some (host_of address ∷ [])
+IsAt (of.Simulated fill) goal = Unit {0}
 
 -- the exchange of each of these venues is, in order
-abbrev pub AreAt : List Venue → List SocketAddr → Type 0
+abbrev pub AreAt : List Venue → List Goal → Type 0
 AreAt [] [] = Unit {0}
-AreAt [] (addr ∷ addrs) = ⊥
+AreAt [] (goal ∷ goals) = ⊥
 AreAt (venue ∷ venues) [] = ⊥
-AreAt (venue ∷ venues) (addr ∷ addrs) = IsAt venue.endpoint addr × AreAt venues addrs
+AreAt (venue ∷ venues) (goal ∷ goals) = IsAt venue.endpoint goal × AreAt venues goals
 
 -- the address of a venue's exchange, if that is simulated
-abbrev pub own_addr : Endpoint → SocketAddr → Option SocketAddr
-own_addr (At address) addr = None
-own_addr (Simulated fill) addr = Some addr
+abbrev pub own_addr : Endpoint → Goal → Option SocketAddr
+own_addr (of.Simulated fill) (At addr) = Some addr
+own_addr (of.Simulated fill) (Hosts hosts) = None
+own_addr (of.At address) goal = None
 
 -- those of these venues
-abbrev pub own_addrs : List Venue → List SocketAddr → List SocketAddr
-own_addrs [] addrs = []
+abbrev pub own_addrs : List Venue → List Goal → List SocketAddr
+own_addrs [] goals = []
 own_addrs (venue ∷ venues) [] = []
-own_addrs (venue ∷ venues) (addr ∷ addrs) = option_to_list (own_addr venue.endpoint addr) ++ own_addrs venues addrs
+own_addrs (venue ∷ venues) (goal ∷ goals) = option_to_list (own_addr venue.endpoint goal) ++ own_addrs venues goals

@@ -2,7 +2,7 @@
 use Rattle.session_worker.specs.declared.run_fault.RunFault.{RunFault}
 use Rattle.session_worker.specs.declared.run_fault.RunFault.TheVariants as run
 use Rattle.desk_venues.specs.declared.day_fault.DayFault.{DayFault}
-use Rattle.desk_venues.specs.declared.day_fault.DayFault.TheVariants.{NoAddress, NoJournal, NoLogs, NoPage, NoSocket, NoThread, OutOfMemory}
+use Rattle.desk_venues.specs.declared.day_fault.DayFault.TheVariants.{NoJournal, NoLogs, NoPage, NoSocket, NoThread, OutOfMemory}
 
 -- why the workers can't be run
 abbrev pub run_fault : RunFault → DayFault
@@ -11,7 +11,6 @@ run_fault run.NoThread = NoThread
 
 -- a refusal that is no mismatch of the audit
 abbrev pub IsNoMismatch : DayFault → Type 0
-IsNoMismatch (NoAddress place) = Unit {0}
 IsNoMismatch (NoLogs fault) = Unit {0}
 IsNoMismatch (NoJournal refused) = Unit {0}
 IsNoMismatch NoPage = Unit {0}

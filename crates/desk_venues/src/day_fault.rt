@@ -13,9 +13,6 @@ use thiserror::Error;
 /// Why a day can't be run, or its audit fails. All its threads have ended.
 #[derive(Debug, PartialEq, Eq, Drop, Error)]
 pub enum DayFault {
-    /// The address of the venue at this place, from 0, is no address that can be dialled: its host isn't known.
-    #[error("no address")]
-    NoAddress(usize),
     /// The logs of the day can't be begun.
     #[error("{0}")]
     NoLogs(LogFault),

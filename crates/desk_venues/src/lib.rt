@@ -5,9 +5,9 @@
 //! - What opens the venues, and what runs their workers, is refused for no mismatch of the audit (`IsNoMismatch`).
 //! - Each worker begins with the dialect and the terms of the venue at its place, and nothing went over its link
 //!   (`open_venues`, `starts_of`). It runs from there, and what it leaves is handed on (`run_workers`, `AllRan`).
-//! - A venue's address is the IP that its host is written as, with the port; a simulated exchange's is its own
-//!   (`open_places`, private). Each link is made with the address at its place, and each worker with a link to its
-//!   venue's (`new_links`, `new_worker`, private). What a name stands for is the system's answer.
+//! - A venue is dialled at the hosts of its addresses, in the file's order, and a simulated exchange where it listens
+//!   (`open_places`, private). Each link is made with the goal at its place, and each worker with a link to its venue's
+//!   (`new_links`, `new_worker`, private). Which address a link dials for a host is said by `link`.
 //! - A simulated exchange begins as one with the comp ids of its venue, and fills as the file says (`Exchange::open`);
 //!   that it has the dialect is only tested.
 //! - That the logs, where any are kept, hold the messages and lines of the day is only tested. What a log is, and that
@@ -19,6 +19,7 @@
 mod address;
 mod day_fault;
 mod exchange;
+mod hosts;
 mod logs;
 mod opened;
 mod opening;

@@ -75,11 +75,11 @@ pub fn open_venues<'a, L: Run, M: Accounts, R: Net + Files<File = File> + Wait +
         ≡ workers_from venues.now starts.items (map J.told journals.items)) }
     ensures only { IfErr result IsNoMismatch }
 {
-    let Places { addrs, exchanges } = open_places(rt, alloc, venues, cut)?;
+    let Places { goals, exchanges } = open_places(rt, alloc, venues, cut)?;
     let sight = first_sight(rt, alloc, folder, venues)?;
     let mut bells = new_bells(alloc, exchanges.as_slice())?;
     let views = sight.views.as_slice();
-    let links = new_links(rt, alloc, addrs.as_slice(), views, &mut bells)?;
+    let links = new_links(rt, alloc, goals, views, &mut bells)?;
     let workers = new_workers(rt, alloc, venues, links, views, starts, journals)?;
     Ok(OpenVenues {
         sight,

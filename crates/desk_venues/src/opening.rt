@@ -5,18 +5,19 @@ ghost use Rattle.desk_venues.specs.Addresses.{IsAt, AreAt, own_addr, own_addrs};
 ghost use Rattle.desk_venues.specs.Faults.{IsNoMismatch};
 ghost use Rattle.desk_venues.specs.Venues.{cut_of, plan_in, plans};
 
-use crate::address::first_address;
 use crate::day_fault::DayFault;
 use crate::exchange::Exchange;
+use crate::hosts::hosts_of;
 use desk_config::{Endpoint, Venue};
+use link::Goal;
 use std::alloc::{AllocError, Global};
-use std::net::{Net, SocketAddr};
+use std::net::Net;
 use std::time::Clock;
 
-/// The address of each venue's exchange, in order, and the exchanges that are simulated.
+/// Where each venue's exchange is dialled, in order, and the exchanges that are simulated.
 #[derive(Drop)]
 pub struct Places<'a, R: Clock> {
-    pub addrs: Vec<SocketAddr>,
+    pub goals: Vec<Goal>,
     pub exchanges: Vec<Exchange<'a, R>>,
 }
 
@@ -27,8 +28,8 @@ fn cut_of(cut: u64, place: usize) -> u64
     if place == 0 { cut } else { 0 }
 }
 
-/// Opens an exchange for each venue that is simulated, and looks up the addresses of the others. The exchange of the
-/// first venue cuts its connection once, behind message `cut`; at 0 none does.
+/// Opens an exchange for each venue that is simulated. The others are dialled at the hosts of their addresses: nothing
+/// is looked up here. The exchange of the first venue cuts its connection once, behind message `cut`; at 0 none does.
 pub fn open_places<'a, R: Net + Clock>(
     rt: &'a R,
     alloc: Global,
@@ -36,32 +37,31 @@ pub fn open_places<'a, R: Net + Clock>(
     cut: u64,
 ) -> Result<Places<'a, R>, DayFault>
     ensures plans { IfOk result (λ places. map (λ e. e.acceptor.plan) places.exchanges.items ≡ plans cut venues.now) }
-    ensures each { IfOk result (λ places. length places.addrs.items ≡ length venues.now) }
-    ensures at { IfOk result (λ places. AreAt venues.now places.addrs.items) }
+    ensures each { IfOk result (λ places. length places.goals.items ≡ length venues.now) }
+    ensures at { IfOk result (λ places. AreAt venues.now places.goals.items) }
     ensures own { IfOk result (λ places. map (λ e. e.addr) places.exchanges.items
-        ≡ own_addrs venues.now places.addrs.items) }
+        ≡ own_addrs venues.now places.goals.items) }
     ensures only { IfErr result IsNoMismatch }
 {
-    let mut addrs = Vec::new(alloc);
+    let mut goals = Vec::new(alloc);
     let mut exchanges = Vec::new(alloc);
     for venue in venues {
-        let own = cut_of(cut, addrs.len());
-        let (addr, exchange) = open_place(rt, alloc, venue, own, addrs.len())?;
-        addrs.push(addr)?;
+        let own = cut_of(cut, goals.len());
+        let (goal, exchange) = open_place(rt, alloc, venue, own)?;
+        goals.push(goal)?;
         push_exchange(&mut exchanges, exchange)?;
     }
-    Ok(Places { addrs, exchanges })
+    Ok(Places { goals, exchanges })
 }
 
-/// The address of the exchange of the venue at a place, and the exchange, if it is simulated; this one cuts its
-/// connection once, behind message `cut`, or never at 0.
+/// Where the exchange of a venue is dialled, and the exchange, if it is simulated; this one cuts its connection once,
+/// behind message `cut`, or never at 0.
 fn open_place<'a, R: Net + Clock>(
     rt: &'a R,
     alloc: Global,
     venue: &Venue,
     cut: u64,
-    place: usize,
-) -> Result<(SocketAddr, Option<Exchange<'a, R>>), DayFault>
+) -> Result<(Goal, Option<Exchange<'a, R>>), DayFault>
     ensures plan { IfOk result (λ opened. option_map (λ e. e.acceptor.plan) opened.1
         ≡ plan_in cut venue.now.endpoint) }
     ensures at { IfOk result (λ opened. IsAt venue.now.endpoint opened.0) }
@@ -70,13 +70,13 @@ fn open_place<'a, R: Net + Clock>(
     ensures only { IfErr result IsNoMismatch }
 {
     match &venue.endpoint {
-        Endpoint::At(address) => match first_address(rt, address) {
-            Some(addr) => Ok((addr, None)),
-            None => Err(DayFault::NoAddress(place)),
-        },
+        Endpoint::At(address) => {
+            let hosts = hosts_of(alloc, address)?;
+            Ok((Goal::Hosts(hosts), None))
+        }
         Endpoint::Simulated(fill) => {
             let exchange = Exchange::open(rt, alloc, venue, fill.get(), cut)?;
-            Ok((exchange.addr, Some(exchange)))
+            Ok((Goal::At(exchange.addr), Some(exchange)))
         }
     }
 }

@@ -18,13 +18,13 @@ use desk_config::Venue;
 use desk_floor::{Bells, Floor, VenueView};
 use exec_collector::Accounts;
 use kept_link::Telling;
-use link::{Link, Poller, Rest, TcpLink};
+use link::{Goal, Link, Poller, Rest, TcpLink};
 use release_lock::Run;
 use session_worker::{Pace, Start, Worker, WorkerEnd, run_all_until};
 use std::alloc::{AllocError, Global};
 use std::collections::VecDeque;
 use std::io::Write;
-use std::net::{Net, SocketAddr};
+use std::net::Net;
 use std::sync::Wait;
 use std::thread::Threads;
 use std::time;
@@ -43,29 +43,32 @@ pub type DeskWorker<'a, R, L, M, J> = Worker<
     J,
 >;
 
-/// Links to these addresses, in order, each seen in the view at its place. The bell of each is added to these.
+/// Links to these goals, in order, each seen in the view at its place. The bell of each is added to these.
 pub fn new_links<'a, R: Net + Wait + time::Clock>(
     rt: &'a R,
     alloc: Global,
-    addrs: &[SocketAddr],
+    goals: Vec<Goal>,
     views: &[VenueView],
     bells: &mut Bells,
 ) -> Result<Vec<DeskLink<'a, R>>, DayFault>
-    requires views { length views.now ≡ length addrs.now }
-    ensures addrs { IfOk result (λ links. map (λ l. l.link.addr) links.items ≡ addrs.now) }
+    requires views { length views.now ≡ length goals.items }
+    ensures goals { IfOk result (λ links. map (λ l. l.link.goal) links.items ≡ goals.items) }
     ensures new { IfOk result (λ links. All (λ l. l.link.told.traffic ≡ []) links.items) }
     ensures only { IfErr result IsNoMismatch }
 {
     let mut links = Vec::new(alloc);
-    for addr in addrs {
-        let view = &views[links.len()];
-        links.push(new_link(rt, alloc, *addr, view, bells)?)?;
+    let mut goals = VecDeque::from(goals);
+    for view in views {
+        let Some(goal) = goals.pop_front() else {
+            unreachable!()
+        };
+        links.push(new_link(rt, alloc, goal, view, bells)?)?;
     }
     Ok(links)
 }
 
 /// The workers of these venues, in order, each with the link, the start and the journal at its place, seen in its view.
-/// Each link dials its venue's address.
+/// Each link dials its venue's addresses.
 pub fn new_workers<'a, L: Run, M: Accounts, R: Net + Wait + time::Clock, J: Telling>(
     rt: &'a R,
     alloc: Global,
@@ -76,7 +79,7 @@ pub fn new_workers<'a, L: Run, M: Accounts, R: Net + Wait + time::Clock, J: Tell
     journals: Vec<J>,
 ) -> Result<Vec<DeskWorker<'a, R, L, M, J>>, DayFault>
     requires links { length links.items ≡ length venues.now }
-    requires at { AreAt venues.now (map (λ l. l.link.addr) links.items) }
+    requires at { AreAt venues.now (map (λ l. l.link.goal) links.items) }
     requires new { All (λ l. l.link.told.traffic ≡ []) links.items }
     requires views { length views.now ≡ length venues.now }
     requires starts { length starts.items ≡ length venues.now }
@@ -105,7 +108,7 @@ pub fn new_workers<'a, L: Run, M: Accounts, R: Net + Wait + time::Clock, J: Tell
     Ok(workers)
 }
 
-/// The worker of a venue over a link to its address, with this start and journal, which tells on the board of this
+/// The worker of a venue over a link to its addresses, with this start and journal, which tells on the board of this
 /// view.
 fn new_worker<'a, L: Run, M: Accounts, R: Net + Wait + time::Clock, J: Telling>(
     rt: &'a R,
@@ -117,7 +120,7 @@ fn new_worker<'a, L: Run, M: Accounts, R: Net + Wait + time::Clock, J: Telling>(
     journal: J,
 ) -> Result<DeskWorker<'a, R, L, M, J>, AllocError>
     requires link { link.link.told.traffic ≡ [] }
-    requires at { IsAt venue.now.endpoint link.link.addr }
+    requires at { IsAt venue.now.endpoint link.link.goal }
     ensures { IfOk result (λ worker. worker ≡ record {
       dialect = dialect_of venue.now.words;
       parts = worker_from start (Some []) (J.told journal);
@@ -128,19 +131,19 @@ fn new_worker<'a, L: Run, M: Accounts, R: Net + Wait + time::Clock, J: Telling>(
     let dialect = venue.words.dialect();
     let end = desk_end(venue);
     let worker = Worker::going_on(alloc, dialect, link, journal, clock, end, start, Pace::Time);
-    Ok(worker.telling_on(board))
+    Ok(worker.telling_on(board).reopening(venue.session.reopen))
 }
 
-/// A link to an address, which tells in this view why it can't be dialled, and whose bell is added to these. Its
+/// A link to a goal, which tells in this view why it can't be dialled, and whose bell is added to these. Its
 /// messages are logged where the view has a log.
 fn new_link<'a, R: Net + Wait + time::Clock>(
     rt: &'a R,
     alloc: Global,
-    addr: SocketAddr,
+    goal: Goal,
     view: &VenueView,
     bells: &mut Bells,
 ) -> Result<DeskLink<'a, R>, DayFault>
-    ensures addr { IfOk result (λ link. link.link.addr ≡ addr) }
+    ensures goal { IfOk result (λ link. link.link.goal ≡ goal) }
     ensures traffic { IfOk result (λ link. link.link.told.traffic ≡ []) }
     ensures only { IfErr result IsNoMismatch }
 {
@@ -152,7 +155,7 @@ fn new_link<'a, R: Net + Wait + time::Clock>(
     if bells.add(&poller).is_err() {
         return Err(DayFault::NoSocket);
     }
-    let mut link = TcpLink::new(rt, addr, poller, Rest::Sleep);
+    let mut link = TcpLink::to(rt, goal, poller, Rest::Sleep);
     link.tell_on(last_dial);
     Ok(LoggedLink::new(link, recorder))
 }

@@ -88,6 +88,8 @@ impl Link for Trickle {
 
     fn heard(&mut self, _left: usize) {}
 
+    fn came_up(&mut self) {}
+
     fn write(&mut self, bytes: &[u8]) -> Result<usize, LinkFault> {
         if !self.dialled || fails(&mut self.calls_left) {
             return Err(LinkFault::counted(&mut self.faults));

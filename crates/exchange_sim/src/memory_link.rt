@@ -108,6 +108,8 @@ impl<D: Dialect + Drop, C: Clock + Drop> Link for MemoryLink<D, C> {
 
     fn heard(&mut self, _left: usize) {}
 
+    fn came_up(&mut self) {}
+
     fn write(&mut self, bytes: &[u8]) -> Result<usize, LinkFault> {
         if counted(&mut self.calls, self.plan.fails_at) || !self.acceptor.is_connected() {
             return Err(self.recording.fault());

@@ -23,7 +23,7 @@ impl Port {
     /// A free port of the loopback address. Refused where the system gives none, or memory is refused.
     pub fn open(net: &impl Net, alloc: Global) -> io::Result<Port> {
         let mut listener = TcpListener::bind(net, SocketAddr::from(([127, 0, 0, 1], 0)))?;
-        let poller = Poller::new(net, alloc)?;
+        let mut poller = Poller::new(net, alloc)?;
         poller.watch(&mut listener)?;
         Ok(Port {
             listener,

@@ -1,9 +1,9 @@
 -- How `dispatch journal` ends.
-use Rattle.std.specs.Prelude.{◌≡◌, ℕ, Bool, true, false, List, Option, MatchOption, Result, Ok, Err}
+use Rattle.std.specs.Prelude.{◌≡◌, ◌≢◌, ℕ, Bool, true, false, List, [], Option, MatchOption, Result, Ok, Err}
 use Rattle.std.specs.Io.KnownBytes.{Appends, Keeps}
 use Rattle.clap.specs.declared.parser.matches.ArgMatches.{ArgMatches}
 use Rattle.journal_command.specs.Fault.{fault_status}
-use Rattle.journal_command.specs.Judged.{Says}
+use Rattle.journal_command.specs.Judged.{Listed, Says}
 use Rattle.journal_command.specs.Logged.{LogsJournal, LogsUpTo}
 use Rattle.journal_command.specs.Request.{IsRequest}
 use Rattle.journal_command.specs.declared.command.Request.{Request}
@@ -16,10 +16,12 @@ journal_status (Ok true) = 8
 journal_status (Ok false) = 0
 journal_status (Err fault) = fault_status fault
 
--- journals were read, and what they say was printed
+-- the journals that are listed were read, one at least, and what they say was printed
 pub record Judges (r : Request) (before after : Option (List ℕ)) (broken : Bool) : Type 0 where
+  pub listed : Listed
+  pub some : listed ≢ []
   pub text : List ℕ
-  pub says : Says r.tells_lines text broken
+  pub says : Says r.tells_lines listed [] text broken
   pub printed : Appends before after text
 
 -- what is asked for was done: journals were read, or the log of one was printed, which isn't broken

@@ -3,9 +3,9 @@
 //! Promises:
 //! - `journal_run` ends with the status of what it did (`ExitsSo`): 8 where a journal is broken, 0 where none is, or
 //!   that of its fault, before which nothing is printed.
-//! - What is printed is exactly what the journals come to that were read (`journals_text`), each with what the bytes of
-//!   its files say (`IsSaid`), by `AreFound` and `IsRefused` of `journal_folder`. So a line that is damaged is told
-//!   with its place, and is never taken for the end of its file.
+//! - What is printed is exactly what the journals that are listed come to, each once and in order (`journals_text`,
+//!   `Says`), with what the bytes of as many files as are listed say (`IsSaid`), by `IsFoundOf` and `IsRefused` of
+//!   `journal_folder`. So a line that is damaged is told with its place, and is never taken for the end of its file.
 //! - With `--log` what is printed is the log of a journal whose files were read, by `PrintsLog` of `journal_log`: its
 //!   head, and what its lines come to (`LogsJournal`); at a line that says nothing, that of the lines before it
 //!   (`LogsUpTo`).

@@ -1,7 +1,9 @@
 //! The log of a venue, made of its journal.
 
-ghost use Rattle.std.specs.Prelude.{◌≡◌, ℕ, List, IfOk, IfSome, MatchResult, Some};
-ghost use Rattle.journal_folder.specs.Found.{AreFound};
+ghost use Rattle.std.specs.Prelude.{◌≡◌, ℕ, IfOk, IfSome, MatchResult, Some};
+ghost use Rattle.std.specs.BTreeMap.{get_by_text};
+ghost use Rattle.std.specs.Option.{IsSomeAnd};
+ghost use Rattle.journal_folder.specs.Found.{IsFoundOf};
 ghost use Rattle.journal_log.specs.Head.{head_words};
 ghost use Rattle.journal_command.specs.Fault.{IsOfFolder, IsStop};
 ghost use Rattle.journal_command.specs.Logged.{LogsJournal};
@@ -12,6 +14,7 @@ use crate::said::fault_of;
 use journal_folder::{FolderFault, Found, list_journals, read_journal};
 use journal_log::{LogFault, VenueHead, print_log, read_venue_head};
 use std::alloc::{AllocError, Global};
+use std::collections::BTreeMap;
 use std::fs::{File, Files};
 use std::io::Write;
 
@@ -27,6 +30,26 @@ fn broken_fault(alloc: Global, folder: &str, name: &str, why: FolderFault) -> Co
     }
 }
 
+/// What is found of the journal of this name, if it is listed.
+fn read_listed<F: Files<File = File>>(
+    files: &F,
+    alloc: Global,
+    folder: &str,
+    journals: &BTreeMap<String, usize>,
+    name: &str,
+) -> Result<Found, CommandFault>
+    ensures { MatchResult result
+        (λ found. IsSomeAnd (get_by_text journals.now name.now) (λ count. IsFoundOf count found)) IsOfFolder }
+{
+    let Some(last) = journals.get(name) else {
+        return Err(CommandFault::no_venue(alloc, name));
+    };
+    match read_journal(files, alloc, folder, name, *last) {
+        Ok(found) => Ok(found),
+        Err(fault) => Err(broken_fault(alloc, folder, name, fault)),
+    }
+}
+
 /// What is found of the journal of this name.
 fn read_named<F: Files<File = File>>(
     files: &F,
@@ -34,7 +57,7 @@ fn read_named<F: Files<File = File>>(
     folder: &str,
     name: &str,
 ) -> Result<Found, CommandFault>
-    ensures { MatchResult result (λ found. (files : List (List ℕ)) × AreFound files found) IsOfFolder }
+    ensures { MatchResult result (λ found. (count : ℕ) × IsFoundOf count found) IsOfFolder }
 {
     let journals = match list_journals(files, alloc, folder) {
         Ok(journals) => journals,
@@ -44,13 +67,7 @@ fn read_named<F: Files<File = File>>(
     if journals.is_empty() {
         return Err(CommandFault::NoJournal);
     }
-    let Some(last) = journals.get(name) else {
-        return Err(CommandFault::no_venue(alloc, name));
-    };
-    match read_journal(files, alloc, folder, name, *last) {
-        Ok(found) => Ok(found),
-        Err(fault) => Err(broken_fault(alloc, folder, name, fault)),
-    }
+    read_listed(files, alloc, folder, &journals, name)
 }
 
 /// The head of a journal, if it is one of a venue that this program knows.

@@ -1,9 +1,9 @@
 //! What is said of the journals in a folder.
 
-ghost use Rattle.std.specs.Prelude.{◌≡◌, ◌++◌, true, false, [], IfErr, IfOk, OnOk};
+ghost use Rattle.std.specs.Prelude.{◌≡◌, ◌≢◌, ◌++◌, ℕ, true, false, [], map, string_bytes, IfErr, IfOk, OnOk};
 ghost use Rattle.std.specs.Option.{unwrap_or};
 ghost use Rattle.journal_command.specs.Fault.{IsOfFolder};
-ghost use Rattle.journal_command.specs.Judged.{IsSaid, Says};
+ghost use Rattle.journal_command.specs.Judged.{IsSaid, Listed, Says, SaysNext};
 ghost use Rattle.journal_command.specs.Shown.{broken_text};
 
 use crate::command::Request;
@@ -11,6 +11,7 @@ use crate::fault::CommandFault;
 use crate::text::{add_found, add_title, broken_text};
 use journal_folder::{FolderFault, Found, journal_path, list_journals, read_journal};
 use std::alloc::Global;
+use std::collections::BTreeMap;
 use std::fs::{File, Files};
 
 /// What is printed of journals, and whether one of them is broken.
@@ -61,8 +62,8 @@ impl Said {
         name: &str,
         read: Result<Found, FolderFault>,
     ) -> Result<(), CommandFault>
-        ensures said { OnOk result (IsSaid read → Says request.now.tells_lines self.old.text.items self.old.is_broken
-            → Says request.now.tells_lines self.new.text.items self.new.is_broken) }
+        ensures said { OnOk result ((files : ℕ) → IsSaid files read → SaysNext request.now.tells_lines name.now
+            files self.old.text.items self.old.is_broken self.new.text.items self.new.is_broken) }
         ensures only { IfErr result IsOfFolder }
     {
         add_title(alloc, &mut self.text, name)?;
@@ -93,13 +94,33 @@ pub(crate) fn fault_of(alloc: Global, folder: &str, name: &str, fault: FolderFau
     }
 }
 
+/// What is said of these journals in the folder that is asked for, each with how many files it has.
+fn say_all<F: Files<File = File>>(
+    files: &F,
+    alloc: Global,
+    request: &Request<'_>,
+    journals: &BTreeMap<String, usize>,
+) -> Result<Said, CommandFault>
+    ensures said { IfOk result (λ said. Says request.now.tells_lines
+        (map (λ j. (string_bytes j.0, j.1)) journals.now.entries) [] said.text.items said.is_broken) }
+    ensures only { IfErr result IsOfFolder }
+{
+    let mut said = Said::new(alloc);
+    for (name, last) in journals {
+        let read = read_journal(files, alloc, request.folder, name.as_str(), *last);
+        said.say(alloc, request, name.as_str(), read)?;
+    }
+    Ok(said)
+}
+
 /// What is said of the journals in the folder that is asked for.
 pub(crate) fn say_folder<F: Files<File = File>>(
     files: &F,
     alloc: Global,
     request: &Request<'_>,
 ) -> Result<Said, CommandFault>
-    ensures said { IfOk result (λ said. Says request.now.tells_lines said.text.items said.is_broken) }
+    ensures said { IfOk result (λ said. (listed : Listed) × (listed ≢ [])
+        × Says request.now.tells_lines listed [] said.text.items said.is_broken) }
     ensures only { IfErr result IsOfFolder }
 {
     let journals = match list_journals(files, alloc, request.folder) {
@@ -110,10 +131,5 @@ pub(crate) fn say_folder<F: Files<File = File>>(
     if journals.is_empty() {
         return Err(CommandFault::NoJournal);
     }
-    let mut said = Said::new(alloc);
-    for (name, last) in &journals {
-        let read = read_journal(files, alloc, request.folder, name.as_str(), *last);
-        said.say(alloc, request, name.as_str(), read)?;
-    }
-    Ok(said)
+    say_all(files, alloc, request, &journals)
 }

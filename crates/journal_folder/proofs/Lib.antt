@@ -3,6 +3,7 @@ pub mod Calls
 pub mod Founds
 pub mod Files
 pub mod HeadBack
+pub mod Reading
 pub mod Rooms
 pub mod SameFound
 pub mod Starts

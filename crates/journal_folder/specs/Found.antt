@@ -1,5 +1,5 @@
 -- What is found of a journal in the bytes of its files.
-use Rattle.std.specs.Prelude.{◌≡◌, ℕ, ◌+◌, Bool, false, not, List, [], ◌∷◌, ◌++◌, length, take, drop, count_by, Option, Some, None, ◌==◌, nat_lt, if◌then◌else◌}
+use Rattle.std.specs.Prelude.{◌≡◌, ◌⊎◌, ℕ, ◌+◌, Bool, true, false, not, List, [], ◌∷◌, ◌++◌, length, take, drop, count_by, Option, Some, None, Result, Ok, Err, ◌==◌, nat_lt, if◌then◌else◌}
 use Rattle.std.specs.Str.{bytes_eq}
 use Rattle.journal_record.specs.Reading.{HasAll, is_damaged}
 use Rattle.journal_record.specs.declared.judging.TextEnd.{TextEnd}
@@ -7,7 +7,7 @@ use Rattle.journal_record.specs.declared.judging.TextEnd.TheVariants.{Damaged as
 use Rattle.journal_tape.specs.Tape.{text}
 use Rattle.journal_folder.specs.Head.{head_of}
 use Rattle.journal_folder.specs.declared.fault.FolderFault.{FolderFault}
-use Rattle.journal_folder.specs.declared.fault.FolderFault.TheVariants.{CantRead, Gone, Damaged, NoHead, LinesGone, OtherWords, OutOfMemory}
+use Rattle.journal_folder.specs.declared.fault.FolderFault.TheVariants.{CantRead, Gone, Damaged, NoFolder, NoHead, LinesGone, OtherWords, OutOfMemory}
 
 -- the lines that count, how many files they are of, and the words of their heads; and of the last file how many bytes
 -- are the beginning of a line, and how many behind its first NUL are none
@@ -116,6 +116,16 @@ AreFound [] found = found ≡ none_found
 AreFound (bytes ∷ earlier) found =
     (before : FoundParts) × AreFound earlier before × IsTaken before (length earlier + 1) bytes found
 
+-- what is found of so many files
+abbrev pub IsFoundOf : ℕ → FoundParts → Type 0
+IsFoundOf count found = (files : List (List ℕ)) × AreFound files found × (length files ≡ count)
+
+-- a folder that can't be listed, or there is no memory for its journals' names
+abbrev pub IsUnlisted : FolderFault → Type 0
+IsUnlisted NoFolder = Unit {0}
+IsUnlisted OutOfMemory = Unit {0}
+IsUnlisted fault = ⊥
+
 -- a file that isn't there or can't be read, or there is no memory for it
 abbrev pub IsUnread : FolderFault → Type 0
 IsUnread (Gone file) = Unit {0}
@@ -133,3 +143,14 @@ IsRefused (Gone file) = Unit {0}
 IsRefused (CantRead file) = Unit {0}
 IsRefused OutOfMemory = Unit {0}
 IsRefused fault = MayBreak fault
+
+-- so many files were read, whose heads have other words than these
+abbrev pub HasOtherWords : ℕ → List ℕ → FolderFault → Type 0
+HasOtherWords count words fault =
+    (found : FoundParts) × IsFoundOf count found × (other_words found.words words ≡ true)
+    × (fault ≡ OtherWords found.files)
+
+-- what is found of so many files whose heads have these words, or why they can't be gone on with
+abbrev pub IsFoundUnder : ℕ → List ℕ → Result FoundParts FolderFault → Type 0
+IsFoundUnder count words (Ok found) = IsFoundOf count found × (other_words found.words words ≡ false)
+IsFoundUnder count words (Err fault) = IsRefused fault ⊎ HasOtherWords count words fault

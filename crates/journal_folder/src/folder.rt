@@ -1,14 +1,21 @@
 //! The folder of a day.
 
-ghost use Rattle.std.specs.Prelude.{◌≡◌, IfOk};
+ghost use Rattle.std.specs.Prelude.{◌≡◌, [], IfOk, length};
+ghost use Rattle.std.specs.BTreeMap.{get_by_text};
+ghost use Rattle.std.specs.Option.{unwrap_or};
 ghost use Rattle.journal_tape.specs.Told.{no_lines};
+ghost use Rattle.journal_folder.specs.Found.{IsFoundUnder};
+ghost use Rattle.journal_folder.specs.NextFile.{next_number};
+ghost use Rattle.journal_folder.specs.Reads.{Reads};
 
 use crate::durable::Durable;
 use crate::fault::FolderFault;
 use crate::folder_journal::FolderJournal;
 use crate::found::{Found, read_journal};
 use crate::listed::list_journals;
+use crate::reads::FolderReads;
 use std::alloc::Global;
+use std::collections::BTreeMap;
 use std::fs;
 use std::fs::{File, Files, OpenOptions};
 
@@ -21,6 +28,7 @@ pub struct DayFolder<'a, R: Files<File = File>> {
     path: &'a str,
     durable: Durable,
     lock: File,
+    pub reads: FolderReads,
 }
 
 /// The file whose lock is taken.
@@ -47,7 +55,10 @@ impl<'a, R: Files<File = File>> DayFolder<'a, R> {
         alloc: Global,
         path: &'a str,
         durable: Durable,
-    ) -> Result<DayFolder<'a, R>, FolderFault> {
+    ) -> Result<DayFolder<'a, R>, FolderFault>
+        ensures reads { IfOk result (λ folder. folder.reads.journals ≡ []) }
+        ensures durable { IfOk result (λ folder. folder.durable ≡ durable) }
+    {
         match fs::create_dir_all(rt, path) {
             Ok(()) => {}
             Err(_) => return Err(FolderFault::NoFolder),
@@ -63,12 +74,29 @@ impl<'a, R: Files<File = File>> DayFolder<'a, R> {
             path,
             durable,
             lock,
+            reads: FolderReads::new(),
         })
     }
 
     /// The lines of a journal that count, where its heads have these words; none where no file of it is there.
-    pub fn read(&self, name: &str, words: &str) -> Result<Found, FolderFault> {
+    pub fn read(&mut self, name: &str, words: &str) -> Result<Found, FolderFault>
+        ensures { Reads name.now words.now result self.old.reads.journals self.new.reads.journals }
+    {
         let journals = list_journals(self.rt, self.alloc, self.path)?;
+        let found = self.read_listed(&journals, name, words)?;
+        self.reads = self.reads.with(name.as_bytes(), &found);
+        Ok(found)
+    }
+
+    /// Those of a journal of which the greatest number that a file has is listed.
+    fn read_listed(
+        &self,
+        journals: &BTreeMap<String, usize>,
+        name: &str,
+        words: &str,
+    ) -> Result<Found, FolderFault>
+        ensures { IsFoundUnder (unwrap_or (get_by_text journals.now name.now) 0) words.now result }
+    {
         let files = match journals.get(name) {
             Some(files) => *files,
             None => 0,
@@ -90,7 +118,13 @@ impl<'a, R: Files<File = File>> DayFolder<'a, R> {
         found: &Found,
         room: usize,
     ) -> Result<FolderJournal<'a, R>, FolderFault>
-        ensures { IfOk result (λ journal. journal.told.lines ≡ no_lines) }
+        ensures told { IfOk result (λ journal. journal.told.lines ≡ no_lines) }
+        ensures name { IfOk result (λ journal. journal.place.name.now ≡ name.now) }
+        ensures words { IfOk result (λ journal. journal.place.words.now ≡ words.now) }
+        ensures before { IfOk result (λ journal. journal.before ≡ length found.now.lines) }
+        ensures start { IfOk result (λ journal. journal.start ≡ length found.now.lines) }
+        ensures file { IfOk result (λ journal. journal.file ≡ next_number found.now.files) }
+        ensures durable { IfOk result (λ journal. journal.place.durable ≡ self.now.durable) }
     {
         FolderJournal::begin(
             self.rt,

@@ -3,6 +3,7 @@
 ghost use Rattle.std.specs.Prelude.{◌≡◌, ◌<◌, ◌≤◌, ◌+◌, ◌-◌, ◌++◌, ◌∷◌, [], true, false, drop, length, OnOk, IfOk, map, vec_len, vec_capacity};
 ghost use Rattle.journal_tape.specs.Told.{all_kept, next_line, no_lines};
 ghost use Rattle.journal_folder.specs.Head.{head_text};
+ghost use Rattle.journal_folder.specs.NextFile.{IsNextFile, next_number};
 
 use crate::durable::Durable;
 use crate::fault::FolderFault;
@@ -37,7 +38,10 @@ struct NextFile {
 
 impl NextFile {
     /// The file behind this one, once that has lines.
-    fn go_past(&mut self, file: usize, has_lines: bool) {
+    fn go_past(&mut self, file: usize, has_lines: bool)
+        ensures past { has_lines ≡ true → self.new.number ≡ next_number file }
+        ensures here { has_lines ≡ false → self.new.number ≡ self.old.number }
+    {
         if has_lines {
             self.number = file.saturating_add(1);
             self.making = Making::New;
@@ -68,6 +72,7 @@ pub struct FolderJournal<'a, R: Files<File = File>> {
     pub ghost counted: { kept ≡ before + length told.lines.kept },
     pub ghost begins: { before ≤ start },
     pub ghost started: { start ≤ kept },
+    pub ghost next_number: { IsNextFile next_file.number file start kept },
     pub ghost file_has: { writer.told.lines.kept
         ≡ head_text file start place.words.now ∷ drop (start - before) told.lines.kept },
 }
@@ -166,7 +171,13 @@ impl<'a, R: Files<File = File>> FolderJournal<'a, R> {
         room: usize,
         durable: Durable,
     ) -> Result<FolderJournal<'a, R>, FolderFault>
-        ensures { IfOk result (λ journal. journal.told.lines ≡ no_lines) }
+        ensures told { IfOk result (λ journal. journal.told.lines ≡ no_lines) }
+        ensures name { IfOk result (λ journal. journal.place.name.now ≡ name.now) }
+        ensures words { IfOk result (λ journal. journal.place.words.now ≡ words.now) }
+        ensures before { IfOk result (λ journal. journal.before ≡ length found.now.lines) }
+        ensures start { IfOk result (λ journal. journal.start ≡ length found.now.lines) }
+        ensures file { IfOk result (λ journal. journal.file ≡ next_number found.now.files) }
+        ensures durable { IfOk result (λ journal. journal.place.durable ≡ durable) }
     {
         let place = Place {
             rt,

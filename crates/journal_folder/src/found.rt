@@ -2,7 +2,7 @@
 
 ghost use Rattle.std.specs.Prelude.{◌≡◌, ◌≤◌, ℕ, List, length, drop, map, IfErr, MatchResult, Some};
 ghost use Rattle.std.specs.Option.{option_map};
-ghost use Rattle.journal_folder.specs.Found.{AreFound, GoesOn, HasLinesOf, IsRefused, IsSound, IsTaken, IsUnread, MayBeDamaged, MayRefuse, MayRefuseLines};
+ghost use Rattle.journal_folder.specs.Found.{GoesOn, HasLinesOf, IsFoundOf, IsRefused, IsSound, IsTaken, IsUnread, MayBeDamaged, MayRefuse, MayRefuseLines};
 ghost use Rattle.journal_folder.specs.Found.{filled, head_fault, none_found, other_words};
 
 use crate::fault::FolderFault;
@@ -257,7 +257,7 @@ pub fn read_journal<R: Files<File = File>>(
     name: &str,
     files: usize,
 ) -> Result<Found, FolderFault>
-    ensures { MatchResult result (λ found. (files : List (List ℕ)) × AreFound files found) IsRefused }
+    ensures { MatchResult result (IsFoundOf files) IsRefused }
 {
     let mut found = Found::new(alloc);
     for before in 0..files {

@@ -10,13 +10,17 @@
 //! - `Found` is just what the bytes of files say (`AreFound`): the lines that each has behind its head, where no line
 //!   is damaged, and the lines before it that its head counts. A whole line that is the record of none is named with
 //!   its file, its number and its place (`MayRefuse`), and nothing is found then.
+//! - `DayFolder::read` finds what some files say, as many as are listed under the name, and their heads have the words
+//!   that it takes (`Reads`, `IsFoundUnder`). Contracts see what was found under which name (`FolderReads`).
+//! - A `FolderJournal` begins behind all lines that were found, in the file behind theirs. A file that has kept lines
+//!   is never made again (`IsNextFile`).
 //! - What is kept in the file that a `FolderJournal` writes is its head, and the lines kept since it began
 //!   (`file_has`).
 //! - Whatever crashes leave of a journal's files over its lives (`AreLeft`), a start finds the lines that are kept, and
 //!   behind them the first of those that were being written. It refuses none of the files
 //!   (`laws::a_start_finds_what_was_kept`). What it takes of each file is what `file_has` and the invariant of
 //!   `JournalWriter` say.
-//! - The lock, and which files are there, are only tested.
+//! - The lock, which files are there, and that bytes are read of the file that is named, are only tested.
 #![tactic(auto)]
 
 mod durable;
@@ -28,6 +32,7 @@ mod found;
 mod head;
 pub mod laws;
 mod listed;
+mod reads;
 mod room;
 mod shown;
 
@@ -39,3 +44,4 @@ pub use folder_journal::FolderJournal;
 pub use found::{Found, read_journal};
 pub use head::{Head, head_line, read_head};
 pub use listed::{journal_path, list_journals};
+pub use reads::FolderReads;

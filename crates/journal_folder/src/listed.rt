@@ -1,5 +1,8 @@
 //! The journals in a folder.
 
+ghost use Rattle.std.specs.Prelude.{◌≡◌, IfErr};
+ghost use Rattle.journal_folder.specs.Found.{IsUnlisted};
+
 use crate::fault::FolderFault;
 use crate::head::count_of;
 use std::alloc::{AllocError, Global};
@@ -30,7 +33,9 @@ fn note(
     alloc: Global,
     journals: &mut BTreeMap<String, usize>,
     name: &str,
-) -> Result<(), FolderFault> {
+) -> Result<(), FolderFault>
+    ensures { IfErr result (λ fault. fault ≡ FolderFault.OutOfMemory) }
+{
     let Some((name, file)) = file_of(name) else {
         return Ok(());
     };
@@ -47,7 +52,9 @@ pub fn list_journals<R: Files<File = File>>(
     rt: &R,
     alloc: Global,
     folder: &str,
-) -> Result<BTreeMap<String, usize>, FolderFault> {
+) -> Result<BTreeMap<String, usize>, FolderFault>
+    ensures { IfErr result IsUnlisted }
+{
     let mut journals = BTreeMap::new(alloc);
     let Ok(entries) = fs::read_dir(&(rt, alloc), folder) else {
         return Err(FolderFault::NoFolder);

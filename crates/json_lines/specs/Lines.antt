@@ -62,16 +62,27 @@ state_json (Closed cause) = ended_json (codes "closed") cause
 abbrev pub venue_json : List ℕ → VenueState → List ℕ
 venue_json venue state = codes "{\"venue\":\"" ++ venue ++ codes "\"," ++ state_json state ++ codes "}"
 
+-- as `{"contradicted":"ARCA","legs":1}`
+abbrev pub contradicted_json : List ℕ → ℕ → List ℕ
+contradicted_json venue legs =
+    codes "{\"contradicted\":\"" ++ venue ++ codes "\",\"legs\":" ++ decimal legs ++ codes "}"
+
 -- a change
 abbrev pub news_json : News → List ℕ
 news_json (news.Sweep parts) = sweep_json parts
 news_json (news.Venue venue state) = venue_json venue state
+news_json (news.Contradicted venue legs) = contradicted_json venue legs
 
--- as `{"status":{"venue":"ARCA","unsent":3,"doubt":2,"lost":0,"state":"up"}}`
+-- the counts of a venue: its legs, the lines that its log lost, and its contradictions
+unfoldable pub counts_json : VenueStatus → List ℕ
+counts_json row =
+    codes "\"unsent\":" ++ decimal row.unsent ++ codes ",\"doubt\":" ++ decimal row.doubt ++ codes ",\"lost\":"
+    ++ decimal row.lost ++ codes ",\"contradicted\":" ++ decimal row.contradicted
+
+-- as `{"status":{"venue":"ARCA","unsent":3,"doubt":2,"lost":0,"contradicted":0,"state":"up"}}`
 abbrev pub venue_status_json : VenueStatus → List ℕ
 venue_status_json row =
-    codes "{\"status\":{\"venue\":\"" ++ row.venue ++ codes "\",\"unsent\":" ++ decimal row.unsent
-    ++ codes ",\"doubt\":" ++ decimal row.doubt ++ codes ",\"lost\":" ++ decimal row.lost ++ codes ","
+    codes "{\"status\":{\"venue\":\"" ++ row.venue ++ codes "\"," ++ counts_json row ++ codes ","
     ++ state_json row.state ++ codes "}}"
 
 -- a line of what `status` is answered

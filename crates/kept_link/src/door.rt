@@ -81,6 +81,13 @@ impl<K: Link> Door<K> {
         self.link.heard(left);
     }
 
+    /// Tells the link that the session over its connection came up.
+    pub fn came_up(&mut self)
+        ensures { self.new ≡ self.old }
+    {
+        self.link.came_up();
+    }
+
     /// Waits until a byte may be there to read, the bell is rung, or this long has passed. It may return sooner.
     pub fn rest(&mut self, most: Duration)
         ensures wire { Tells self.old.wire self.new.wire Stays }

@@ -1,2 +1,3 @@
+mod Found
 pub mod Taking
 pub mod Walks

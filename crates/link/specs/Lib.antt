@@ -1,4 +1,6 @@
 pub mod Counts
 pub mod Dialling
+pub mod Goals
+pub mod Hosts
 pub mod Told
 pub mod Traffic

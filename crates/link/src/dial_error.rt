@@ -17,22 +17,25 @@ pub enum DialError {
     HostUnreachable,
     /// No way leads to its network.
     NetworkUnreachable,
+    /// The resolver gave no address for the host's name.
+    NoSuchHost,
     /// Anything else.
     Other,
 }
 
 impl DialError {
     /// Each of them, at the place of its code.
-    const ALL: [DialError; 5] = [
+    const ALL: [DialError; 6] = [
         DialError::Refused,
         DialError::TimedOut,
         DialError::HostUnreachable,
         DialError::NetworkUnreachable,
+        DialError::NoSuchHost,
         DialError::Other,
     ];
 
     /// What an error of the system means for a dial.
-    fn of(kind: ErrorKind) -> DialError {
+    pub(crate) fn of(kind: ErrorKind) -> DialError {
         match kind {
             ErrorKind::ConnectionRefused => DialError::Refused,
             ErrorKind::TimedOut => DialError::TimedOut,
@@ -51,7 +54,8 @@ impl DialError {
             DialError::TimedOut => 1,
             DialError::HostUnreachable => 2,
             DialError::NetworkUnreachable => 3,
-            DialError::Other => 4,
+            DialError::NoSuchHost => 4,
+            DialError::Other => 5,
         }
     }
 
@@ -74,8 +78,8 @@ impl LastDial {
     }
 
     /// A dial failed so.
-    pub(crate) fn note(&self, kind: ErrorKind) {
-        self.0.store(DialError::of(kind).code(), Ordering::SeqCst);
+    pub(crate) fn note(&self, error: DialError) {
+        self.0.store(error.code(), Ordering::SeqCst);
     }
 
     /// Why the last dial that failed did, if one has.

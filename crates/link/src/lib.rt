@@ -10,6 +10,9 @@
 //!   those that it gave. The record of them (`Told`, private) takes no byte, so no proof holds it to the calls of the
 //!   system: `read_now`, `write_once`, and the `dial` and `write` of a `TcpLink` have to be read. What was taken may be
 //!   lost.
+//! - It dials the address that it was given; or of the hosts that it was given the one whose turn it is, at an address
+//!   that this host was looked up to for that dial (`TcpLink::connect`, private, asks for it). An IP in place of a name
+//!   stands for itself alone. Behind a dial the next host has its turn, and behind a session that came up the first.
 //! - That a read of it doesn't wait, that a rest ends, and that a `Bell` ends it, is only tested.
 //!
 //! See `docs/worker.md`.
@@ -17,7 +20,9 @@
 
 mod bell;
 mod dial_error;
+mod goal;
 mod got;
+mod host;
 mod link;
 mod link_fault;
 mod poller;
@@ -28,7 +33,9 @@ mod whole;
 
 pub use bell::Bell;
 pub use dial_error::{DialError, LastDial};
+pub use goal::Goal;
 pub use got::Got;
+pub use host::Host;
 pub use link::Link;
 pub use link_fault::LinkFault;
 pub use poller::Poller;

@@ -40,6 +40,11 @@ pub trait Link: Drop {
         ensures wire { Tells (wire self.old) (wire self.new) Stays }
         ensures faults { fault_count self.new ≡ fault_count self.old };
 
+    /// Is told that the session over the connection came up.
+    fn came_up(&mut self)
+        ensures wire { wire self.new ≡ wire self.old }
+        ensures faults { fault_count self.new ≡ fault_count self.old };
+
     /// Writes the first of these bytes, and answers how many: one at least, unless there are none.
     fn write(&mut self, bytes: &[u8]) -> Result<usize, LinkFault>
         ensures bound { IfOk result (λ n. IsSomeOf n (length bytes.now)) }

@@ -21,6 +21,8 @@ pub struct Poller {
     poll: Poll,
     events: Events,
     bell: Arc<Bell, Global>,
+    // Whether the system said that no byte comes any more behind those that are there.
+    is_ending: bool,
 }
 
 impl Poller {
@@ -32,6 +34,7 @@ impl Poller {
             poll,
             events: Events::with_capacity(alloc, SOURCES)?,
             bell: Arc::new(alloc, bell)?,
+            is_ending: false,
         })
     }
 
@@ -41,7 +44,8 @@ impl Poller {
     }
 
     /// Watches a source, in place of the one before, which is to be dropped. Waits end where it may be read.
-    pub fn watch<S: Source>(&self, source: &mut S) -> io::Result<()> {
+    pub fn watch<S: Source>(&mut self, source: &mut S) -> io::Result<()> {
+        self.is_ending = false;
         self.poll
             .registry()
             .register(source, WATCHED, Interest::READABLE)
@@ -49,10 +53,15 @@ impl Poller {
 
     /// Waits until the source that is watched may be ready, the bell is rung, or so long has passed, rounded up to a
     /// millisecond. It may end sooner, and where a ring was left it doesn't wait. It says whether the source may be
-    /// ready.
+    /// ready: has been since it said so last, since the system tells each change once.
     pub fn sleep(&mut self, most: Duration) -> bool {
         self.bell.begin_rest();
-        let is_ready = !self.bell.take_ring() && self.poll_once(most);
+        let most = if self.bell.take_ring() {
+            Duration::ZERO
+        } else {
+            most
+        };
+        let is_ready = self.poll_once(most);
         self.bell.end_rest();
         is_ready
     }
@@ -63,11 +72,12 @@ impl Poller {
             return self.sleep(most);
         };
         for _ in 0..u64::MAX {
-            if self.bell.take_ring() {
-                return false;
-            }
+            let is_rung = self.bell.take_ring();
             if self.poll_once(Duration::ZERO) {
                 return true;
+            }
+            if is_rung {
+                return false;
             }
             match begun.elapsed(clock) {
                 Ok(passed) if passed < most => {}
@@ -75,6 +85,11 @@ impl Poller {
             }
         }
         false
+    }
+
+    /// Whether the other side of the source was seen to have written its last byte, or the source to have failed.
+    pub(crate) fn is_ending(&self) -> bool {
+        self.is_ending
     }
 
     /// Waits until a source may be written to as well, or so long has passed.
@@ -96,6 +111,13 @@ impl Poller {
         if self.poll.poll(&mut self.events, Some(most)).is_err() {
             return true;
         }
-        self.events.iter().any(|event| event.token() == WATCHED)
+        let mut is_ready = false;
+        for event in self.events.iter() {
+            if event.token() == WATCHED {
+                is_ready = true;
+                self.is_ending = self.is_ending || event.is_read_closed() || event.is_error();
+            }
+        }
+        is_ready
     }
 }

@@ -1,13 +1,18 @@
 //! A link over TCP.
 
-ghost use Rattle.std.specs.Prelude.{◌≡◌, true, length, take, [], IfOk, IfSome, MatchResult};
+ghost use Rattle.std.specs.Prelude.{◌≡◌, true, length, take, [], Some, IfOk, IfSome, MatchResult};
+ghost use Rattle.std.specs.List.{All};
+ghost use Rattle.std.specs.Net.ToAddrs.{host_addrs};
 ghost use Rattle.std.proofs.Props.{props};
-ghost use Rattle.link.specs.Counts.{Fits, IsSomeOf};
+ghost use Rattle.link.specs.Counts.{Fits, IsSomeOf, Rises};
+ghost use Rattle.link.specs.Goals.{LeadsTo, next_turn};
 ghost use Rattle.link.specs.Told.{is_begun};
-ghost use Rattle.link.specs.Traffic.{Gives, Takes, Stays};
+ghost use Rattle.link.specs.Traffic.{Tells, Dials, Gives, Takes, Stays};
 
-use crate::dial_error::LastDial;
+use crate::dial_error::{DialError, LastDial};
+use crate::goal::Goal;
 use crate::got::Got;
+use crate::host::look_up;
 use crate::link::Link;
 use crate::link_fault::LinkFault;
 use crate::poller::Poller;
@@ -17,12 +22,15 @@ use mio::net::TcpStream;
 use std::alloc::Global;
 use std::io;
 use std::io::{ErrorKind, Read, Write};
-use std::net::{Net, Shutdown, SocketAddr};
+use std::net::{HostAddrs, Net, Shutdown, SocketAddr};
 use std::sync::Arc;
 use std::time::{Clock, Duration, Instant};
 
-/// How many seconds a dial waits for an answer.
+/// How many seconds a dial waits for an answer from one address.
 const DIAL_SECONDS: u64 = 1;
+
+/// How many addresses of a host a dial tries at most.
+const MOST_ADDRESSES: usize = 8;
 
 /// How many seconds the writes of some bytes wait, from the first that finds no room until all are taken.
 const WRITE_SECONDS: u64 = 5;
@@ -33,18 +41,29 @@ const LAST_READS: u32 = 64;
 /// How many bytes such a read takes at most.
 const LAST_BYTES: usize = 4_096;
 
-/// A link over TCP to one address. A dial waits a second at most; writes wait five from the first that finds no room,
-/// until one takes all of its bytes; a read never waits. Its traffic is what the system answered: the bytes of each
-/// write that it took and of each read that it gave. What a socket took may still be lost.
+/// How many reads in a row ask nothing of the system, at most, where no rest came between.
+const MOST_PASSED: u32 = 2;
+
+/// A link over TCP. A dial looks its host up, and tries up to eight of the addresses that this gives, a second each; it
+/// also waits as long as the resolver does. Writes wait five seconds from the first that finds no room, until one takes
+/// all of its bytes; a read never waits. Its traffic is what the system answered: the bytes of each write that it took
+/// and of each read that it gave. What a socket took may still be lost.
+///
+/// A read gives `Nothing` at once, without asking the system, where neither a rest nor the read before saw more to
+/// read; but at most two in a row do, unless a rest came between.
 #[derive(Drop)]
 pub struct TcpLink<'a, N: Net + Clock> {
     rt: &'a N,
-    addr: SocketAddr,
+    goal: Goal,
+    // The place of the host whose turn it is.
+    turn: usize,
     poller: Poller,
     how: Rest,
     stream: Option<TcpStream>,
     // Whether a byte may be there that the poller won't tell of again.
     may_read: bool,
+    // How many reads asked nothing of the system, since the last rest or the last one that did.
+    passed: u32,
     // Since when writes find no room, until one takes all of its bytes.
     full_since: Option<Instant>,
     faults: u64,
@@ -54,19 +73,32 @@ pub struct TcpLink<'a, N: Net + Clock> {
 }
 
 impl<'a, N: Net + Clock> TcpLink<'a, N> {
-    /// A link that isn't dialled yet. It waits with this poller, which watches nothing yet.
+    /// A link to one address that isn't dialled yet. It waits with this poller, which watches nothing yet.
     pub fn new(rt: &'a N, addr: SocketAddr, poller: Poller, how: Rest) -> TcpLink<'a, N>
-        ensures addr { result.addr ≡ addr }
+        ensures goal { result.goal ≡ Goal.At addr }
+        ensures turn { result.turn ≡ 0 }
+        ensures faults { result.faults ≡ 0 }
+        ensures traffic { result.told.traffic ≡ [] }
+    {
+        TcpLink::to(rt, Goal::At(addr), poller, how)
+    }
+
+    /// The same to a goal.
+    pub fn to(rt: &'a N, goal: Goal, poller: Poller, how: Rest) -> TcpLink<'a, N>
+        ensures goal { result.goal ≡ goal }
+        ensures turn { result.turn ≡ 0 }
         ensures faults { result.faults ≡ 0 }
         ensures traffic { result.told.traffic ≡ [] }
     {
         TcpLink {
             rt,
-            addr,
+            goal,
+            turn: 0,
             poller,
             how,
             stream: None,
             may_read: false,
+            passed: 0,
             full_since: None,
             faults: 0,
             last_dial: None,
@@ -76,11 +108,75 @@ impl<'a, N: Net + Clock> TcpLink<'a, N> {
 
     /// From now on it tells there why a dial failed.
     pub fn tell_on(&mut self, last_dial: Arc<LastDial, Global>)
-        ensures addr { self.new.addr ≡ self.old.addr }
+        ensures goal { self.new.goal ≡ self.old.goal }
+        ensures turn { self.new.turn ≡ self.old.turn }
         ensures faults { self.new.faults ≡ self.old.faults }
         ensures traffic { self.new.told.traffic ≡ self.old.told.traffic }
     {
         self.last_dial = Some(last_dial);
+    }
+
+    /// Connects to the address of its goal, or to one that the host whose turn it is was looked up to.
+    fn connect(&mut self, addr: SocketAddr) -> Result<TcpStream, DialError>
+        requires leads { LeadsTo self.old.goal self.old.turn addr }
+        ensures goal { self.new.goal ≡ self.old.goal }
+        ensures turn { self.new.turn ≡ self.old.turn }
+        ensures faults { self.new.faults ≡ self.old.faults }
+        ensures traffic { self.new.told.traffic ≡ self.old.told.traffic }
+    {
+        connect(self.rt, addr, &mut self.poller).map_err(|error| DialError::of(error.kind()))
+    }
+
+    /// Connects to the first of these addresses that answers.
+    fn connect_to_one(&mut self, found: HostAddrs) -> Result<TcpStream, DialError>
+        requires leads { All (LeadsTo self.old.goal self.old.turn) (host_addrs found) }
+        ensures goal { self.new.goal ≡ self.old.goal }
+        ensures turn { self.new.turn ≡ self.old.turn }
+        ensures faults { self.new.faults ≡ self.old.faults }
+        ensures traffic { self.new.told.traffic ≡ self.old.told.traffic }
+    {
+        let mut found = found;
+        let mut last = DialError::NoSuchHost;
+        for _ in 0..MOST_ADDRESSES {
+            let Some(addr) = found.next() else {
+                break;
+            };
+            match self.connect(addr) {
+                Ok(stream) => return Ok(stream),
+                Err(error) => last = error,
+            }
+        }
+        Err(last)
+    }
+
+    /// Connects to its goal; where that is hosts, to the one whose turn it is.
+    fn reach(&mut self) -> Result<TcpStream, DialError>
+        ensures goal { self.new.goal ≡ self.old.goal }
+        ensures turn { self.new.turn ≡ self.old.turn }
+        ensures faults { self.new.faults ≡ self.old.faults }
+        ensures traffic { self.new.told.traffic ≡ self.old.told.traffic }
+    {
+        let found = match &self.goal {
+            Goal::At(addr) => {
+                let addr = *addr;
+                return self.connect(addr);
+            }
+            Goal::Hosts(hosts) => look_up(self.rt, hosts, self.turn)?,
+        };
+        self.connect_to_one(found)
+    }
+
+    /// Whether a read would find nothing, as far as is known, and so is to ask nothing of the system.
+    fn passes(&mut self) -> bool
+        ensures faults { self.new.faults ≡ self.old.faults }
+        ensures traffic { self.new.told.traffic ≡ self.old.told.traffic }
+    {
+        if self.stream.is_none() || self.may_read || self.passed >= MOST_PASSED {
+            self.passed = 0;
+            return false;
+        }
+        self.passed += 1;
+        true
     }
 
     /// Reads what is there.
@@ -96,6 +192,8 @@ impl<'a, N: Net + Clock> TcpLink<'a, N> {
         match stream.read(buf) {
             Ok(0) => Ok(Got::End),
             Ok(n) => {
+                // A read that leaves room has taken all there was, and the poller tells of what comes behind it.
+                self.may_read = n == buf.len() || self.poller.is_ending();
                 self.told = self.told.gave(buf.split_at(n).0);
                 Ok(Got::Bytes(n))
             }
@@ -196,11 +294,19 @@ impl<'a, N: Net + Clock> Link for TcpLink<'a, N> {
 
     ghost fault_count = { λ link. link.faults };
 
-    fn dial(&mut self) -> Result<(), LinkFault> {
+    fn dial(&mut self) -> Result<(), LinkFault>
+        ensures wire { MatchResult result (λ _. Tells (Some self.old.told.traffic) (Some self.new.told.traffic) Dials)
+            (λ _. Tells (Some self.old.told.traffic) (Some self.new.told.traffic) Stays) }
+        ensures faults { Rises result self.old.faults self.new.faults }
+        ensures goal { self.new.goal ≡ self.old.goal }
+        ensures turn { self.new.turn ≡ next_turn self.old.goal self.old.turn }
+    {
         self.stream = None;
         self.may_read = false;
         self.full_since = None;
-        match connect(self.rt, self.addr, &mut self.poller) {
+        let reached = self.reach();
+        self.turn = self.goal.turn_behind(self.turn);
+        match reached {
             Ok(stream) => {
                 self.told = self.told.dialled();
                 self.stream = Some(stream);
@@ -209,7 +315,7 @@ impl<'a, N: Net + Clock> Link for TcpLink<'a, N> {
             }
             Err(error) => {
                 if let Some(last_dial) = &self.last_dial {
-                    last_dial.note(error.kind());
+                    last_dial.note(error);
                 }
                 Err(LinkFault::counted(&mut self.faults))
             }
@@ -217,7 +323,7 @@ impl<'a, N: Net + Clock> Link for TcpLink<'a, N> {
     }
 
     fn read(&mut self, buf: &mut [u8]) -> Result<Got, LinkFault> {
-        if buf.is_empty() && self.stream.is_some() {
+        if (buf.is_empty() && self.stream.is_some()) || self.passes() {
             return Ok(Got::Nothing);
         }
         match self.read_now(buf) {
@@ -227,6 +333,14 @@ impl<'a, N: Net + Clock> Link for TcpLink<'a, N> {
     }
 
     fn heard(&mut self, _left: usize) {}
+
+    fn came_up(&mut self)
+        ensures wire { Some self.new.told.traffic ≡ Some self.old.told.traffic }
+        ensures faults { self.new.faults ≡ self.old.faults }
+        ensures first { self.new.turn ≡ 0 }
+    {
+        self.turn = 0;
+    }
 
     fn write(&mut self, bytes: &[u8]) -> Result<usize, LinkFault> {
         let Some(stream) = &mut self.stream else {
@@ -256,6 +370,7 @@ impl<'a, N: Net + Clock> Link for TcpLink<'a, N> {
             Rest::Spin => self.poller.spin(self.rt, most),
         };
         self.may_read = is_ready && self.stream.is_some();
+        self.passed = 0;
     }
 
     fn shut(&mut self) -> Result<(), LinkFault> {

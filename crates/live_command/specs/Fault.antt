@@ -39,7 +39,6 @@ IsOfCommandLine other = ⊥
 
 -- the fault of a day that can't be run, or whose audit fails. A day over loopback keeps no logs and has no page
 abbrev pub day_fault : DayFault → CommandFault
-day_fault (day.NoAddress place) = NoSocket
 day_fault (day.NoLogs fault) = NoSocket
 day_fault (day.NoJournal refused) = NoSocket
 day_fault day.NoPage = NoSocket

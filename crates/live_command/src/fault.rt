@@ -108,7 +108,6 @@ impl From<DayFault> for CommandFault {
 
     fn from(fault: DayFault) -> CommandFault {
         match fault {
-            DayFault::NoAddress(_) => CommandFault::NoSocket,
             DayFault::NoLogs(_) => CommandFault::NoSocket,
             DayFault::NoJournal(_) => CommandFault::NoSocket,
             DayFault::NoPage => CommandFault::NoSocket,

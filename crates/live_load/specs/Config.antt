@@ -9,7 +9,7 @@ use Rattle.venue_words.specs.declared.words.VenueWords.TheVariants.{Preset}
 
 -- how each session is held
 abbrev pub session : SessionTerms
-session = record { heartbeat = 30; next_expected = false; max_number = 999_999_999 }
+session = record { heartbeat = 30; next_expected = false; reopen = false; max_number = 999_999_999 }
 
 -- the venue of a number: its exchange is simulated and trades 6 shares of each order; the desk is A and the exchange B
 abbrev pub venue_of : ℕ → Venue

@@ -27,6 +27,7 @@ fn session() -> SessionTerms
     SessionTerms {
         heartbeat: Heartbeat::of(HEARTBEAT),
         next_expected: false,
+        reopen: false,
         max_number: NumberLimit::of(MAX_NUMBER),
     }
 }

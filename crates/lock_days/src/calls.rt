@@ -1,6 +1,6 @@
 //! The calls of a turn.
 
-ghost use Rattle.release_lock.specs.Locked.{OnlyTurns};
+ghost use Rattle.release_lock.specs.Held.{OnlyLowers};
 
 use crate::answer::Answer;
 use crate::day::Played;
@@ -17,7 +17,7 @@ use trial::{Order, Post, TrialFault, sweep_of};
 
 /// Puts a gate down, if the desk has it.
 fn gate_down(desk: &mut Desk, at: VenueId)
-    ensures { OnlyTurns desk.old desk.new }
+    ensures { OnlyLowers desk.old desk.new }
 {
     if usize::from(at.number()) < desk.venues() {
         desk.gate_down(at);

@@ -1,7 +1,7 @@
 //! How the desk, the book, the seats and the rings stand.
 
 ghost use Rattle.std.specs.Prelude.{◌≡◌};
-ghost use Rattle.release_lock.specs.Locked.{OnlyTurns};
+ghost use Rattle.release_lock.specs.Held.{OnlyLowers};
 
 use leg::{Totals, VenueId};
 use std::fmt;
@@ -73,7 +73,7 @@ fn last_legs(desk: &Desk) -> usize {
 
 /// How a desk stands. It is only asked.
 pub fn desk_standing(desk: &mut Desk) -> DeskStanding
-    ensures { OnlyTurns desk.old desk.new }
+    ensures { OnlyLowers desk.old desk.new }
 {
     DeskStanding {
         entries: desk.history().len(),

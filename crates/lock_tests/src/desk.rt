@@ -1,7 +1,7 @@
 //! What is asked of the desk under its lock, and what is popped from a ring.
 
 ghost use Rattle.std.specs.Prelude.{◌≡◌};
-ghost use Rattle.release_lock.specs.Locked.{OnlyTurns};
+ghost use Rattle.release_lock.specs.Held.{OnlyLowers};
 
 use exec_collector::{Accounts, Collector};
 use leg::{Sweep, VenueId};
@@ -12,7 +12,7 @@ use sweep_release::{Desk, DeskEntry, Receipt, ReleaseFault};
 
 /// Puts a gate down, if the desk has it.
 pub(crate) fn lowers(desk: &mut Desk, at: VenueId)
-    ensures { OnlyTurns desk.old desk.new }
+    ensures { OnlyLowers desk.old desk.new }
 {
     if usize::from(at.number()) < desk.venues() {
         desk.gate_down(at);
@@ -21,7 +21,7 @@ pub(crate) fn lowers(desk: &mut Desk, at: VenueId)
 
 /// The number of entries, the shares placed, and the number of legs of the last sweep that was released.
 pub(crate) fn last_sweep(desk: &mut Desk) -> (usize, u64, usize)
-    ensures { OnlyTurns desk.old desk.new }
+    ensures { OnlyLowers desk.old desk.new }
 {
     let mut legs = 0;
     for entry in desk.history() {
@@ -34,7 +34,7 @@ pub(crate) fn last_sweep(desk: &mut Desk) -> (usize, u64, usize)
 
 /// How many legs are placed at a venue, if the desk has it.
 pub(crate) fn placed_at(desk: &mut Desk, at: VenueId) -> usize
-    ensures { OnlyTurns desk.old desk.new }
+    ensures { OnlyLowers desk.old desk.new }
 {
     if usize::from(at.number()) < desk.venues() {
         desk.placed(at)

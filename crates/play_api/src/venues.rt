@@ -119,6 +119,7 @@ impl Venues {
                 unsent: 0,
                 doubt: u64::from(is_amiss),
                 lost: 0,
+                contradicted: 0,
                 state: state_of(if is_amiss { self.word.as_str() } else { "up" }),
             },
             settled: 5,

@@ -106,8 +106,13 @@ fn session_text(alloc: Global, venue: &Venue) -> Result<String, AllocError> {
     } else {
         ""
     };
+    let reopen = if venue.session.reopen {
+        " reopen"
+    } else {
+        ""
+    };
     let max = venue.session.max_number;
-    format!(in alloc; "{dialect} heartbeat {heartbeat}{next} max_number {max}")
+    format!(in alloc; "{dialect} heartbeat {heartbeat}{next}{reopen} max_number {max}")
 }
 
 fn venue_text(alloc: Global, venue: &Venue) -> Result<String, AllocError> {

@@ -104,12 +104,21 @@ fn venue_news(alloc: Global, text: &str) -> Result<News, PlayFault> {
     Ok(News::Venue { venue, state })
 }
 
-/// The news of `sweep NUMBER SHARES PARTS`, with `paid VALUE UNPRICED DISPUTED` behind it or not, or of
-/// `venue NAME STATE`.
+/// That an exchange contradicted itself, of `NAME LEGS`.
+fn contradicted(text: &str) -> Result<News, PlayFault> {
+    let (name, legs) = first_word(text)?;
+    let venue = venue_named(name)?;
+    let legs = number(legs)?;
+    Ok(News::Contradicted { venue, legs })
+}
+
+/// The news of `sweep NUMBER SHARES PARTS`, with `paid VALUE UNPRICED DISPUTED` behind it or not, of
+/// `venue NAME STATE`, or of `contradicted NAME LEGS`.
 pub fn news(alloc: Global, text: &str) -> Result<News, PlayFault> {
     match text.split_once(' ') {
         Some(("sweep", text)) => paid_sweep(alloc, text).map(News::Sweep),
         Some(("venue", text)) => venue_news(alloc, text),
+        Some(("contradicted", text)) => contradicted(text),
         _ => Err(PlayFault::NotUnderstood),
     }
 }

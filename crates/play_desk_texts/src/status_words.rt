@@ -28,6 +28,7 @@ fn venue_status(alloc: Global, text: &str) -> Result<VenueStatus, PlayFault> {
         unsent,
         doubt,
         lost,
+        contradicted: 0,
         state,
     })
 }

@@ -12,3 +12,4 @@ pub mod Raising
 pub mod NotedSweeps
 pub mod Shares
 pub mod DayDollars
+pub mod Holding

@@ -9,7 +9,7 @@ use Rattle.sweep_release.specs.Desk.{gate_of, gate_up}
 use Rattle.sweep_release.specs.History.{DeskWithHistory, with_entries, gate_up_entries}
 use Rattle.release_lock.specs.Queues.{is_down, raise}
 
-abbrev in_ring : DeskWithHistory → ℕ → ℕ → Bool
+abbrev pub in_ring : DeskWithHistory → ℕ → ℕ → Bool
 in_ring before venue popped =
     is_down (gate_of before.desk venue) && nat_lt popped (length (released venue before.desk.sweeps))
 

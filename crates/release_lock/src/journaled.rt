@@ -3,11 +3,13 @@
 ghost use Rattle.std.specs.Prelude.{◌≡◌};
 ghost use Rattle.release_lock.specs.Noted.{IsNoted};
 
+use crate::held_desk::HeldDesk;
 use crate::release_lock::notes_of;
 use crate::{LockedDesk, ReleaseLock, Run};
 use kept_link::{Telling, Untold};
 use std::alloc::{AllocError, Global};
 use std::sync::Mutex;
+use std::sync::atomic::AtomicBool;
 
 impl<L: Run> LockedDesk<L> {
     /// The same desk, with a journal which has kept of each of its sweeps, once and in order, that it was placed.
@@ -65,7 +67,7 @@ impl<L: Run, J: Telling> LockedDesk<L, J> {
 }
 
 impl<L: Run, J: Telling> ReleaseLock<L, J> {
-    /// A desk behind a lock again, whose venues are noted as they stand.
+    /// A desk behind a lock again, whose venues are noted as they are. None is held.
     pub fn of_locked(
         alloc: Global,
         locked: LockedDesk<L, J>,
@@ -76,8 +78,9 @@ impl<L: Run, J: Telling> ReleaseLock<L, J> {
             note.take(desk);
         }
         Ok(ReleaseLock {
-            locked: Mutex::new(locked),
+            locked: Mutex::new(HeldDesk::free(locked)),
             notes,
+            halted: AtomicBool::new(false),
         })
     }
 }

@@ -19,7 +19,7 @@
 //!   `all_placed` of `check_placed`): a sweep that is placed is on one seat, once.
 //! - `pump` moves placed legs into the ring, in order, and stops only where none is placed or the ring was full;
 //!   `raise` puts a gate up, and answers G01 until every released leg was popped.
-//! - `with` takes closures that only turn gates.
+//! - `with` takes closures that only put gates down or shut them; no gate of a held venue is up (`HeldDesk`, private).
 //! - `check_placed` is `Ok` exactly where the seats add up to the shares placed, and always is with all 1,024 parts. In
 //!   either case what the seats count are the shares of their sweeps.
 //! - `check_queues` is `Ok` exactly where each worker took the first legs released to the venue at its place, names
@@ -38,8 +38,11 @@ mod checking;
 mod comparing;
 mod counting;
 mod declined;
+mod held_desk;
+mod holds;
 mod journaled;
 mod locked_desk;
+mod lowering;
 mod new_desk;
 mod noting;
 mod pumping;
@@ -59,6 +62,7 @@ pub use comparing::compare_sweeps;
 pub use counting::{Miscounted, check_placed};
 pub use declined::Declined;
 pub use locked_desk::LockedDesk;
+pub use lowering::let_down;
 pub use new_desk::OpenedDesk;
 pub use release_lock::{Opened, ReleaseLock};
 pub use run::Run;

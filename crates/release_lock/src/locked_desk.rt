@@ -14,7 +14,8 @@ ghost use Rattle.sweep_release.specs.Place.{kept, place_kept, PlaceAnswers};
 ghost use Rattle.exec_collector.specs.Resolved.{OnlyOpens};
 ghost use Rattle.order_limits.specs.Day.{MayComeToIf, judged_if, with_sweep};
 ghost use Rattle.order_limits.specs.Within.{IsWithin};
-ghost use Rattle.release_lock.specs.Locked.{IsPlacedWithin, OnlyTurns, Places, Releases};
+ghost use Rattle.release_lock.specs.Held.{OnlyLowers};
+ghost use Rattle.release_lock.specs.Locked.{IsPlacedWithin, Places, Releases};
 ghost use Rattle.release_lock.specs.Locked.{ReleasesWithin, Replays, day_dollars};
 ghost use Rattle.release_lock.specs.Queues.{left_to, Pumps, raise};
 ghost use Rattle.release_lock.specs.Seats.{placing};
@@ -238,11 +239,11 @@ impl<L: Run, J: Telling> LockedDesk<L, J> {
         self.desk.gate_up(venue)
     }
 
-    /// Lends the desk to a closure that only puts gates up or down or shuts them. It may ask the desk anything; it may
-    /// not release, take or drop.
+    /// Lends the desk to a closure that only puts gates down or shuts them. It may ask the desk anything; it may not
+    /// put a gate up, release, take or drop.
     pub fn lend<T, F: FnOnce(&mut Desk) -> T>(&mut self, f: F) -> T
         requires call { F.IsAlwaysCallable f }
-        requires turns { (d : ADesk) (r : T) (e : ADesk) → FnOnceReturnsAtMut F.FnOnce f d r e → OnlyTurns d e }
+        requires lowers { (d : ADesk) (r : T) (e : ADesk) → FnOnceReturnsAtMut F.FnOnce f d r e → OnlyLowers d e }
         ensures call { FnOnceReturnsAtMut F.FnOnce f self.old result self.new }
         ensures replays { Replays self.old × Replays self.new }
     {

@@ -8,12 +8,15 @@ ghost use Rattle.crossbeam_queue.specs.Fifo.{Held};
 ghost use Rattle.leg.specs.Answering.{Answers};
 ghost use Rattle.venue_queue.specs.Rule.{EndsWith};
 ghost use Rattle.share_ledger.specs.Entries.{sweep_shares};
-ghost use Rattle.sweep_release.specs.Desk.{placed};
+ghost use Rattle.sweep_release.specs.Desk.{placed, gate_down};
 ghost use Rattle.sweep_release.specs.History.{KeptDesk as ADesk, without_room};
-ghost use Rattle.release_lock.specs.Locked.{IsPlacedWithin, OnlyTurns, Releases, ReleasesWithin, Replays};
+ghost use Rattle.release_lock.specs.Held.{IsHeldBack, OnlyLowers, all_down};
+ghost use Rattle.release_lock.specs.Locked.{IsPlacedWithin, Releases, ReleasesWithin, Replays};
 ghost use Rattle.release_lock.specs.Queues.{IsFresh, new_drains, left_to, Pumps, raise};
 ghost use Rattle.release_lock.specs.Seats.{first_seat, placing};
 
+use crate::held_desk::HeldDesk;
+use crate::holds::Holds;
 use crate::venue_note::VenueNote;
 use crate::{Asked, BlankDesk, CallerSeat, Declined, LockedDesk, OpenedDesk, Run, VenueDrain};
 use agreed_list::SeatSide;
@@ -22,6 +25,7 @@ use kept_link::{Telling, Untold};
 use leg::{Sweep, VenueId};
 use std::alloc::{AllocError, Global};
 use std::collections::VecDeque;
+use std::sync::atomic::{AtomicBool, Ordering};
 use std::sync::{Mutex, Wait};
 use sweep_release::{Desk, GateFault, Receipt, ReleaseFault};
 use venue_queue::{Drain, Feed};
@@ -29,8 +33,9 @@ use venue_queue::{Drain, Feed};
 /// The desk behind a lock, which all callers and workers share. Each call may wait for the lock.
 #[derive(Drop)]
 pub struct ReleaseLock<L: Run, J: Telling = Untold> {
-    pub(crate) locked: Mutex<LockedDesk<L, J>>,
+    pub(crate) locked: Mutex<HeldDesk<L, J>>,
     pub(crate) notes: Vec<VenueNote>,
+    pub(crate) halted: AtomicBool,
 }
 
 /// A new lock, the seat of its first caller, and the drains of the venues, in the order of their numbers.
@@ -146,26 +151,99 @@ impl<L: Run, J: Telling> ReleaseLock<L, J> {
     }
 
     /// Puts the gate of a drain's venue up, once every leg released to it was popped: an open gate stays so, G02 where
-    /// it was shut, G01 where legs are still placed or in the ring, G03.
+    /// it was shut, G01 where legs are still placed or in the ring or the venue is held, G03.
     pub fn raise(&self, rt: &impl Wait, drain: &VenueDrain<L>) -> Result<(), GateFault>
         ensures { (before : ADesk) × (after : ADesk) × Replays before × Replays after
-            × Answers GateFault.OutOfMemory (without_room before)
-            (raise (without_room before) drain.now.venue (length drain.now.popped)) result (without_room after) }
+            × ((Answers GateFault.OutOfMemory (without_room before)
+            (raise (without_room before) drain.now.venue (length drain.now.popped)) result (without_room after))
+            ⊎ IsHeldBack drain.now.venue before result after) }
     {
         self.locked.lock(rt).raise(drain)
     }
 
-    /// Lends the desk to a closure that only puts gates up or down or shuts them. It may ask the desk anything; it may
-    /// not release, take or drop, nor ask for this lock.
+    /// Lends the desk to a closure that only puts gates down or shuts them. It may ask the desk anything; it may not
+    /// put a gate up, release, take or drop, nor ask for this lock.
     pub fn with<T, F: FnOnce(&mut Desk) -> T>(&self, rt: &impl Wait, f: F) -> T
         requires call { F.IsAlwaysCallable f }
-        requires turns { (d : ADesk) (r : T) (e : ADesk) → FnOnceReturnsAtMut F.FnOnce f d r e → OnlyTurns d e }
+        requires lowers { (d : ADesk) (r : T) (e : ADesk) → FnOnceReturnsAtMut F.FnOnce f d r e → OnlyLowers d e }
         ensures { (d : ADesk) × (e : ADesk) × Replays d × Replays e × FnOnceReturnsAtMut F.FnOnce f d result e }
     {
         let mut locked = self.locked.lock(rt);
         let given = locked.lend(f);
         self.take_notes(locked.desk());
         given
+    }
+
+    /// Holds each venue until `resume`: each gate that is up is put down in one step, and none is put up meanwhile. So
+    /// no sweep is placed.
+    pub fn halt(&self, rt: &impl Wait)
+        ensures { (before : ADesk) × (after : ADesk) × Replays before × Replays after
+            × (after.desk ≡ all_down before.desk) }
+    {
+        let mut locked = self.locked.lock(rt);
+        locked.halt();
+        self.take_holds(locked.holds());
+    }
+
+    /// The desk isn't halted any more: each venue that isn't paused may put its gate up again.
+    pub fn resume(&self, rt: &impl Wait) {
+        let mut locked = self.locked.lock(rt);
+        locked.resume();
+        self.take_holds(locked.holds());
+    }
+
+    /// Holds a venue until `unpause`: its gate is put down. Of the other venues nothing changes.
+    pub fn pause(&self, rt: &impl Wait, venue: VenueId)
+        ensures { (before : ADesk) × (after : ADesk) × Replays before × Replays after
+            × (after.desk ≡ gate_down before.desk venue) }
+    {
+        let mut locked = self.locked.lock(rt);
+        locked.pause(venue);
+        self.take_holds(locked.holds());
+    }
+
+    /// The venue isn't paused any more. While the desk is halted it is still held.
+    pub fn unpause(&self, rt: &impl Wait, venue: VenueId) {
+        let mut locked = self.locked.lock(rt);
+        locked.unpause(venue);
+        self.take_holds(locked.holds());
+    }
+
+    /// Whether the desk is halted. It doesn't wait for the lock.
+    pub fn is_halted(&self) -> bool {
+        self.halted.load(Ordering::SeqCst)
+    }
+
+    /// Whether a venue is paused, as the last call noted that had the lock. It doesn't wait for the lock.
+    pub fn is_paused(&self, venue: VenueId) -> bool {
+        match self.notes.get(usize::from(venue.number())) {
+            Some(note) => note.is_paused(),
+            None => false,
+        }
+    }
+
+    /// Whether a venue is held: it is paused, or the desk is halted. It doesn't wait for the lock.
+    pub fn is_held(&self, venue: VenueId) -> bool {
+        match self.notes.get(usize::from(venue.number())) {
+            Some(note) => note.is_held(),
+            None => false,
+        }
+    }
+
+    /// Whether a venue's worker may be sending a leg for which it saw no hold. Once this is false of a venue that is
+    /// held, none is sent there any more.
+    pub fn is_sending(&self, venue: VenueId) -> bool {
+        match self.notes.get(usize::from(venue.number())) {
+            Some(note) => note.is_sending(),
+            None => false,
+        }
+    }
+
+    /// A venue's worker says whether it may be sending a leg. It says so before it asks whether the venue is held.
+    pub fn tell_sending(&self, venue: VenueId, sends: bool) {
+        if let Some(note) = self.notes.get(usize::from(venue.number())) {
+            note.tell_sending(sends);
+        }
     }
 
     /// Whether the gate of a venue is shut, as the last call said that had the lock. It doesn't wait for the lock. Of a
@@ -193,9 +271,17 @@ impl<L: Run, J: Telling> ReleaseLock<L, J> {
         }
     }
 
+    /// Takes note of what is held.
+    fn take_holds(&self, holds: &Holds) {
+        for note in &self.notes {
+            note.take_holds(holds);
+        }
+        self.halted.store(holds.halted, Ordering::SeqCst);
+    }
+
     /// The desk and its count, once no thread shares the lock any more.
     pub fn into_locked(self) -> LockedDesk<L, J> {
-        self.locked.into_inner()
+        self.locked.into_inner().into_locked()
     }
 }
 

@@ -1,25 +1,32 @@
 //! What a venue's worker asks without the lock.
 
+use crate::holds::Holds;
 use leg::VenueId;
 use std::sync::atomic::{AtomicBool, Ordering};
 use sweep_release::{Desk, Gate};
 
-/// What stands beside the lock of a venue: whether its gate is shut, and whether legs are placed there for which its
-/// ring had no room. It is written under the lock alone.
+/// What is beside the lock of a venue: whether its gate is shut, whether legs are placed there for which its ring had
+/// no room, and whether it is held. These are written under the lock alone. The venue's worker writes whether it sends.
 #[derive(Drop)]
 pub(crate) struct VenueNote {
     venue: VenueId,
     shut: AtomicBool,
     behind: AtomicBool,
+    held: AtomicBool,
+    paused: AtomicBool,
+    sending: AtomicBool,
 }
 
 impl VenueNote {
-    /// The note of a venue whose gate isn't shut, and where nothing is placed.
+    /// The note of a venue whose gate isn't shut, where nothing is placed, and that isn't held.
     pub fn new(venue: VenueId) -> VenueNote {
         VenueNote {
             venue,
             shut: AtomicBool::new(false),
             behind: AtomicBool::new(false),
+            held: AtomicBool::new(false),
+            paused: AtomicBool::new(false),
+            sending: AtomicBool::new(false),
         }
     }
 
@@ -31,6 +38,32 @@ impl VenueNote {
     /// Whether legs were placed at the venue then.
     pub fn is_behind(&self) -> bool {
         self.behind.load(Ordering::SeqCst)
+    }
+
+    /// Whether the venue was held.
+    pub fn is_held(&self) -> bool {
+        self.held.load(Ordering::SeqCst)
+    }
+
+    /// Whether it was paused.
+    pub fn is_paused(&self) -> bool {
+        self.paused.load(Ordering::SeqCst)
+    }
+
+    /// Whether the venue's worker says that it may be sending a leg.
+    pub fn is_sending(&self) -> bool {
+        self.sending.load(Ordering::SeqCst)
+    }
+
+    /// The worker says whether it may be sending a leg from now on.
+    pub fn tell_sending(&self, sends: bool) {
+        self.sending.store(sends, Ordering::SeqCst);
+    }
+
+    /// Takes note of what is held.
+    pub fn take_holds(&self, holds: &Holds) {
+        set(&self.held, holds.is_held(self.venue));
+        set(&self.paused, holds.is_paused(self.venue));
     }
 
     /// Takes note of the desk. Of a venue that it hasn't got nothing is noted.

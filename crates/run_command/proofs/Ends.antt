@@ -8,8 +8,11 @@ use Rattle.desk_run.proofs.Whole.{whole_over}
 use Rattle.desk_run.specs.Told.{IsToldDay, IsToldOver}
 use Rattle.desk_run.specs.declared.day.DeskDay.{DeskDay}
 use Rattle.json_lines.specs.declared.form.Form.{Form}
-use Rattle.run_command.specs.Ending.{end_text, PrintsDay}
-use Rattle.run_command.specs.Running.{EndsRun, IfBeforeDay, IsOfDay}
+use Rattle.run_command.specs.Ending.{end_text, EndsOpen, PrintsDay, PrintsWholeDay}
+use Rattle.command_line.specs.declared.input.InputFault.{InputFault}
+use Rattle.command_line.specs.declared.input.InputFault.TheVariants as input
+use Rattle.run_command.specs.Fault.{input_fault, IsOfCommandLine}
+use Rattle.run_command.specs.Running.{EndsRun, IfBeforeDay, IfOpen, IsOfDay}
 use Rattle.run_command.specs.declared.fault.CommandFault.{CommandFault}
 use Rattle.run_command.specs.declared.fault.CommandFault.TheVariants.{
   CommandLine,
@@ -22,7 +25,6 @@ use Rattle.run_command.specs.declared.fault.CommandFault.TheVariants.{
   NoPage,
   NoLogs,
   NoJournal,
-  NoAddress,
   ReadFailed,
   WriteFailed,
   NoSocket,
@@ -47,7 +49,6 @@ said_of said (BadFile name fault) it = it
 said_of said NoPage it = tt
 said_of said (NoLogs fault) it = tt
 said_of said (NoJournal refused) it = tt
-said_of said (NoAddress place) it = tt
 said_of said ReadFailed it = tt
 said_of said WriteFailed it = tt
 said_of said NoSocket it = tt
@@ -71,7 +72,6 @@ of_day said (BadFile name fault) it = absurd it
 of_day said NoPage it = tt
 of_day said (NoLogs fault) it = tt
 of_day said (NoJournal refused) it = tt
-of_day said (NoAddress place) it = tt
 of_day said ReadFailed it = tt
 of_day said WriteFailed it = tt
 of_day said NoSocket it = tt
@@ -83,30 +83,124 @@ of_day said MismatchPlaced it = tt
 of_day said GivenUp it = tt
 of_day said Unbooked it = tt
 
--- the text of a day that ended well is printed
+-- the text of a day is printed
 pub prints_day : (config : DeskConfig) (form : Form) (day : DeskDay) (before after : Option (List ℕ)) (bytes : List ℕ)
     → IsToldOver config.venues.items day → (config.journal ≡ None → IsToldDay config.venues.items day)
-    → day.broken_off ≡ None → day.is_given_up ≡ false → day.unbooked.items ≡ [] → day.doubts.items ≡ []
     → bytes ≡ end_text form day → Appends before after bytes → PrintsDay config after
-prints_day config form day before after bytes told new taken closed booked settled is printed = record {
+prints_day config form day before after bytes told new is printed = record {
   day = day;
   told = told;
   new = new;
-  taken = taken;
-  whole = whole_over config.venues.items day told closed booked settled;
   form = form;
   held = before;
   printed = subst (λ (text : List ℕ). Appends before after text) is printed;
 }
 
+-- that of a day that ended well
+pub prints_whole : (config : DeskConfig) (form : Form) (day : DeskDay) (before after : Option (List ℕ))
+    (bytes : List ℕ) → IsToldOver config.venues.items day
+    → (config.journal ≡ None → IsToldDay config.venues.items day) → day.broken_off ≡ None → day.is_given_up ≡ false
+    → day.unbooked.items ≡ [] → day.doubts.items ≡ [] → bytes ≡ end_text form day → Appends before after bytes
+    → PrintsWholeDay config after
+unfolding prints_day
+prints_whole config form day before after bytes told new taken closed booked settled is printed = record {
+  prints = prints_day config form day before after bytes told new is printed;
+  taken = taken;
+  whole = whole_over config.venues.items day told closed booked settled;
+}
+
+-- what can't be had of an input is nothing that a day leaves open
+pub of_input : (fault : InputFault) → IfOpen ⊥ (input_fault fault)
+of_input input.ReadFailed = tt
+of_input input.OutOfMemory = tt
+
+-- neither is a fault of the command line
+pub of_words : (fault : CommandFault) → IsOfCommandLine fault → IfOpen ⊥ fault
+of_words (CommandLine error) it = tt
+of_words OutOfMemory it = tt
+of_words GivenUp it = it
+of_words Unbooked it = it
+of_words NoName it = absurd it
+of_words BadPatience it = absurd it
+of_words BadRefs it = absurd it
+of_words (NoFile name) it = absurd it
+of_words (NotText name) it = absurd it
+of_words (BadFile name fault) it = absurd it
+of_words NoPage it = absurd it
+of_words (NoLogs fault) it = absurd it
+of_words (NoJournal refused) it = absurd it
+of_words ReadFailed it = absurd it
+of_words WriteFailed it = absurd it
+of_words NoSocket it = absurd it
+of_words NoThread it = absurd it
+of_words MismatchQueue it = absurd it
+of_words MismatchShares it = absurd it
+of_words MismatchPlaced it = absurd it
+
+-- where a fault is nothing that a day leaves open, whatever is said of such holds of it
+none_open : (said : Type 0) (fault : CommandFault) → IfOpen ⊥ fault → IfOpen said fault
+none_open said GivenUp it = absurd it
+none_open said Unbooked it = absurd it
+none_open said (CommandLine error) it = tt
+none_open said NoName it = tt
+none_open said BadPatience it = tt
+none_open said BadRefs it = tt
+none_open said (NoFile name) it = tt
+none_open said (NotText name) it = tt
+none_open said (BadFile name fault) it = tt
+none_open said NoPage it = tt
+none_open said (NoLogs fault) it = tt
+none_open said (NoJournal refused) it = tt
+none_open said ReadFailed it = tt
+none_open said WriteFailed it = tt
+none_open said NoSocket it = tt
+none_open said NoThread it = tt
+none_open said OutOfMemory it = tt
+none_open said MismatchQueue it = tt
+none_open said MismatchShares it = tt
+none_open said MismatchPlaced it = tt
+
+-- a fault before the day leaves the output as it was
+pub before_day : (before after : Option (List ℕ)) (fault : CommandFault) → Keeps before after → IfOpen ⊥ fault
+    → IfBeforeDay (Keeps before after) fault × IfOpen (EndsOpen after) fault
+before_day before after fault keeps none =
+    (said_of (Keeps before after) fault keeps, none_open (EndsOpen after) fault none)
+
+-- a day that was begun and leaves something open
+open_as : (after : Option (List ℕ)) (bytes : List ℕ) (config : DeskConfig) (fault : CommandFault)
+    → AnswersText bytes (Ok config) → IfOpen (PrintsDay config after) fault → IfOpen (EndsOpen after) fault
+open_as after bytes config GivenUp says prints =
+    record { bytes = bytes; config = config; says = says; prints = prints }
+open_as after bytes config Unbooked says prints =
+    record { bytes = bytes; config = config; says = says; prints = prints }
+open_as after bytes config (CommandLine error) says prints = tt
+open_as after bytes config NoName says prints = tt
+open_as after bytes config BadPatience says prints = tt
+open_as after bytes config BadRefs says prints = tt
+open_as after bytes config (NoFile name) says prints = tt
+open_as after bytes config (NotText name) says prints = tt
+open_as after bytes config (BadFile name fault) says prints = tt
+open_as after bytes config NoPage says prints = tt
+open_as after bytes config (NoLogs fault) says prints = tt
+open_as after bytes config (NoJournal refused) says prints = tt
+open_as after bytes config ReadFailed says prints = tt
+open_as after bytes config WriteFailed says prints = tt
+open_as after bytes config NoSocket says prints = tt
+open_as after bytes config NoThread says prints = tt
+open_as after bytes config OutOfMemory says prints = tt
+open_as after bytes config MismatchQueue says prints = tt
+open_as after bytes config MismatchShares says prints = tt
+open_as after bytes config MismatchPlaced says prints = tt
+
 -- a run ends as the day of its configuration does
 pub ends_as : {A : Type 0} (before after : Option (List ℕ)) (bytes : List ℕ) (config : DeskConfig)
-    (done : Result A CommandFault) → AnswersText bytes (Ok config) → OnOk done (PrintsDay config after)
-    → IfErr done IsOfDay → EndsRun before after done
-ends_as before after bytes config (Ok value) says prints faults = record {
+    (done : Result A CommandFault) → AnswersText bytes (Ok config) → OnOk done (PrintsWholeDay config after)
+    → IfErr done IsOfDay → IfErr done (IfOpen (PrintsDay config after)) → EndsRun before after done
+ends_as before after bytes config (Ok value) says prints faults left = record {
   bytes = bytes;
   config = config;
   says = says;
   prints = inr prints;
 }
-ends_as before after bytes config (Err fault) says prints faults = of_day (Keeps before after) fault faults
+ends_as before after bytes config (Err fault) says prints faults left =
+    (of_day (Keeps before after) fault faults, open_as after bytes config fault says left)

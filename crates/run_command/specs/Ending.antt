@@ -18,22 +18,33 @@ end_text Words day = day_text day
 end_text Json day = json_text day
 
 -- a day of this configuration, which may have had lives before if it keeps a journal, was audited and is told with the
--- rest of what its book and its workers left; nothing is told to have broken its lines off; each session was closed,
--- no leg stays in doubt, and of no venue is a report on the list of what that book didn't take; and its text is
--- printed behind what the output held then
+-- rest of what its book and its workers left; and its text is printed behind what the output held then
 pub record PrintsDay (config : DeskConfig) (after : Option (List ℕ)) : Type 0 where
   pub day : DeskDay
   pub told : IsToldOver config.venues.items day
   pub new : config.journal ≡ None → IsToldDay config.venues.items day
-  pub taken : day.broken_off ≡ None
-  pub whole : IsWhole (length config.venues.items) told.desk_day.ends told.desk_day.audited.day.unbooked
   pub form : Form
   pub held : Option (List ℕ)
   pub printed : Appends held after (end_text form day)
+
+-- such a day of which nothing is left: nothing is told to have broken its lines off; each session was closed, no leg
+-- stays in doubt, and of no venue is a report on the list of what that book didn't take
+pub record PrintsWholeDay (config : DeskConfig) (after : Option (List ℕ)) : Type 0 where
+  pub prints : PrintsDay config after
+  pub taken : prints.day.broken_off ≡ None
+  pub whole :
+      IsWhole (length config.venues.items) prints.told.desk_day.ends prints.told.desk_day.audited.day.unbooked
 
 -- a run ends well with the configuration that some bytes spell: what it says is printed, or its day is
 pub record EndsWell (before after : Option (List ℕ)) : Type 0 where
   pub bytes : List ℕ
   pub config : DeskConfig
   pub says : AnswersText bytes (Ok config)
-  pub prints : Appends before after (check_text config) ⊎ PrintsDay config after
+  pub prints : Appends before after (check_text config) ⊎ PrintsWholeDay config after
+
+-- a run whose day leaves something open prints the day, with the configuration that some bytes spell
+pub record EndsOpen (after : Option (List ℕ)) : Type 0 where
+  pub bytes : List ℕ
+  pub config : DeskConfig
+  pub says : AnswersText bytes (Ok config)
+  pub prints : PrintsDay config after

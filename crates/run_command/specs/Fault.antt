@@ -27,7 +27,6 @@ use Rattle.run_command.specs.declared.fault.CommandFault.TheVariants.{
   NoPage,
   NoLogs,
   NoJournal,
-  NoAddress,
   ReadFailed,
   WriteFailed,
   NoSocket,
@@ -78,7 +77,6 @@ fault_status (NotText name) = 3
 fault_status (BadFile name fault) = 3
 fault_status (NoFile name) = 4
 fault_status NoPage = 4
-fault_status (NoAddress place) = 4
 fault_status ReadFailed = 4
 fault_status WriteFailed = 4
 fault_status NoSocket = 4
@@ -111,7 +109,6 @@ talk_fault talk.OutOfMemory = OutOfMemory
 
 -- the fault of a day that can't be run, or whose audit fails
 abbrev pub day_fault : DayFault → CommandFault
-day_fault (day.NoAddress place) = NoAddress place
 day_fault (day.NoLogs fault) = NoLogs fault
 day_fault (day.NoJournal refused) = NoJournal refused
 day_fault day.NoPage = NoPage

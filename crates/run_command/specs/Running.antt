@@ -2,7 +2,7 @@
 use Rattle.std.specs.Prelude.{◌≡◌, ℕ, List, Option, Result, Ok, Err}
 use Rattle.std.specs.Io.KnownBytes.{Keeps}
 use Rattle.command_line.specs.ExitStatus.{exit_status}
-use Rattle.run_command.specs.Ending.{EndsWell}
+use Rattle.run_command.specs.Ending.{EndsOpen, EndsWell}
 use Rattle.run_command.specs.Fault.{fault_status}
 use Rattle.run_command.specs.declared.fault.CommandFault.{CommandFault}
 use Rattle.run_command.specs.declared.fault.CommandFault.TheVariants.{
@@ -13,6 +13,8 @@ use Rattle.run_command.specs.declared.fault.CommandFault.TheVariants.{
   NoFile,
   NotText,
   BadFile,
+  GivenUp,
+  Unbooked,
 }
 
 -- what is said of a fault of the words or of the file, which comes before anything is dialled or printed
@@ -30,11 +32,19 @@ IfBeforeDay said other = Unit {0}
 abbrev pub IsOfDay : CommandFault → Type 0
 IsOfDay fault = IfBeforeDay ⊥ fault
 
+-- what is said of a fault that tells what an audited day leaves open: a session that was given up, a leg in doubt, or a
+-- report that the book didn't take
+abbrev pub IfOpen : Type 0 → CommandFault → Type 0
+IfOpen said GivenUp = said
+IfOpen said Unbooked = said
+IfOpen said other = Unit {0}
+
 -- how a run ends, by the bytes that the output held before and holds after: a fault of the words or of the file prints
--- nothing, and without a fault the file is told to be a day's, or its day was audited and is printed
+-- nothing; without a fault the file is told to be a day's, or its day was audited and is printed; and so is a day that
+-- leaves something open
 abbrev pub EndsRun : Option (List ℕ) → Option (List ℕ) → {A : Type 0} → Result A CommandFault → Type 0
 EndsRun before after (Ok done) = EndsWell before after
-EndsRun before after (Err fault) = IfBeforeDay (Keeps before after) fault
+EndsRun before after (Err fault) = IfBeforeDay (Keeps before after) fault × IfOpen (EndsOpen after) fault
 
 -- a run that ends so has this exit status
 abbrev pub ExitsSo : Option (List ℕ) → Option (List ℕ) → ℕ → Type 0

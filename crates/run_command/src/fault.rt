@@ -48,9 +48,6 @@ pub enum CommandFault {
     /// The page can't be served where the file asks for it.
     #[error("page: it can't be served there")]
     NoPage,
-    /// The host of the venue at this place, from 0, isn't known.
-    #[error("no address for venue {0}, counted from 0")]
-    NoAddress(usize),
     #[error("read failed")]
     ReadFailed,
     #[error("write failed")]
@@ -185,7 +182,6 @@ impl Fault for CommandFault {
             | CommandFault::BadFile { .. } => 3,
             CommandFault::NoFile(_)
             | CommandFault::NoPage
-            | CommandFault::NoAddress(_)
             | CommandFault::ReadFailed
             | CommandFault::WriteFailed
             | CommandFault::NoSocket
@@ -288,7 +284,6 @@ impl From<DayFault> for CommandFault {
 
     fn from(fault: DayFault) -> CommandFault {
         match fault {
-            DayFault::NoAddress(place) => CommandFault::NoAddress(place),
             DayFault::NoLogs(fault) => CommandFault::NoLogs(fault),
             DayFault::NoJournal(refused) => CommandFault::NoJournal(refused),
             DayFault::NoPage => CommandFault::NoPage,

@@ -4,6 +4,7 @@ ghost use Rattle.std.specs.Prelude.{◌↔◌, ℕ, List, Ok, IsTrue, IfErr, IfO
 ghost use Rattle.desk_config.specs.Apart.{AreVenues};
 ghost use Rattle.desk_config.specs.Config.{AnswersText};
 ghost use Rattle.run_command.specs.Fault.{IsToldSo, WantsMemory};
+ghost use Rattle.run_command.specs.Running.{IfOpen};
 
 use crate::fault::CommandFault;
 use command_line::read_up_to;
@@ -29,7 +30,8 @@ fn wants_memory(fault: &ConfigFault) -> bool
 
 /// The fault of a file of this name. Out of memory is none of the file's.
 fn file_fault(name: String, fault: ConfigFault) -> CommandFault
-    ensures { IsToldSo result }
+    ensures memory { IsToldSo result }
+    ensures left { IfOpen ⊥ result }
 {
     if wants_memory(&fault) {
         CommandFault::OutOfMemory
@@ -43,6 +45,7 @@ fn config_of(alloc: Global, name: &str, bytes: &[u8]) -> Result<DeskConfig, Comm
     ensures says { IfOk result (λ config. AnswersText bytes.now (Ok config)) }
     ensures venues { IfOk result (λ config. AreVenues config.venues.items) }
     ensures memory { IfErr result IsToldSo }
+    ensures left { IfErr result (IfOpen ⊥) }
 {
     let Ok(text) = str::from_utf8(bytes) else {
         return Err(CommandFault::NotText(String::from_str(alloc, name)?));
@@ -55,10 +58,12 @@ fn config_of(alloc: Global, name: &str, bytes: &[u8]) -> Result<DeskConfig, Comm
 }
 
 /// The configuration that the file of a name has: which bytes a file gives no contract says.
+#[tactic(auto, using(crate::proofs::Ends::of_input))]
 pub fn read_file<R: Files>(rt: &R, alloc: Global, name: &str) -> Result<DeskConfig, CommandFault>
     ensures says { IfOk result (λ config. (bytes : List ℕ) × AnswersText bytes (Ok config)) }
     ensures venues { IfOk result (λ config. AreVenues config.venues.items) }
     ensures memory { IfErr result IsToldSo }
+    ensures left { IfErr result (IfOpen ⊥) }
 {
     let mut file = match fs::open(rt, name) {
         Ok(file) => file,

@@ -6,8 +6,9 @@
 //!   configuration was audited and is told: one that began new where no journal is kept (`IsToldDay`), and one that may
 //!   have had lives before where one is (`IsToldOver`). Of that day no worker gave its session up or left a leg in
 //!   doubt, and of no venue is a report on the audited book's list of what it didn't take (`IsWhole`). The day's text
-//!   is printed last (`EndsWell`). Which bytes a file gives, that a fault of the input is told, and what the output
-//!   holds when the day is over, no contract says.
+//!   is printed last (`EndsWell`). A day that leaves such things open is audited, told and printed too (`EndsOpen`).
+//!   Which bytes a file gives, that a fault of the input is told, and what the output holds when the day is over, no
+//!   contract says.
 //! - What is printed behind a day is exactly the stated text of what became of it (`day_text`, or `json_text` with
 //!   `--json`).
 //! - Out of memory while the file is read is never told as a fault of the file (`file_fault`, private).
@@ -21,9 +22,9 @@
 
 ghost use Rattle.std.specs.Prelude.{◌≡◌, None, option_map, string_bytes, IfErr, IfOk, OnOk};
 ghost use Rattle.desk_config.specs.Apart.{AreVenues};
-ghost use Rattle.run_command.specs.Ending.{end_text, PrintsDay};
+ghost use Rattle.run_command.specs.Ending.{end_text, PrintsDay, PrintsWholeDay};
 ghost use Rattle.run_command.specs.Folder.{folder_of, journal_at, journal_folder};
-ghost use Rattle.run_command.specs.Running.{EndsRun, ExitsSo, IsOfDay};
+ghost use Rattle.run_command.specs.Running.{EndsRun, ExitsSo, IfOpen, IsOfDay};
 
 mod check;
 mod end_json;
@@ -88,7 +89,7 @@ where
     finish(run(rt, alloc, words, input, out), err)
 }
 
-#[tactic(auto, using(crate::proofs::Ends::said_of, crate::proofs::Ends::of_day, crate::proofs::Journals::no_journal))]
+#[tactic(auto, using(crate::proofs::Ends::before_day, crate::proofs::Ends::said_of, crate::proofs::Ends::of_day, crate::proofs::Journals::no_journal))]
 fn run<S, R, I, W>(
     rt: &R,
     alloc: Global,
@@ -200,7 +201,8 @@ where
     W: Write + Send,
     requires venues { AreVenues config.now.venues.items }
     requires journal { config.now.journal ≡ None → options.journal ≡ None }
-    ensures ok { OnOk result (PrintsDay config.now (W.contents out.new)) }
+    ensures ok { OnOk result (PrintsWholeDay config.now (W.contents out.new)) }
+    ensures left { IfErr result (IfOpen (PrintsDay config.now (W.contents out.new))) }
     ensures err { IfErr result IsOfDay }
 {
     let fd = input.as_raw_fd();

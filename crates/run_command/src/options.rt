@@ -1,4 +1,5 @@
 //! The options of `dispatch run`.
+ghost use Rattle.run_command.specs.Running.{IfOpen};
 ghost use Rattle.std.specs.Prelude.{◌≡◌, IfErr};
 
 use crate::fault::CommandFault;
@@ -125,10 +126,13 @@ fn wants_refs(matches: &ArgMatches<'_>) -> Result<bool, CommandFault>
 }
 
 /// The options in these words. A missing, unknown or repeated option is a fault of the command line.
+#[tactic(auto, using(crate::proofs::Ends::of_words))]
 pub fn read_options<'a, S: AsStr>(
     alloc: Global,
     words: &'a [S],
-) -> Result<Options<'a>, CommandFault> {
+) -> Result<Options<'a>, CommandFault>
+    ensures { IfErr result (IfOpen ⊥) }
+{
     let command = run_command(alloc)?.bin_name("dispatch run")?;
     let matches = command.try_get_matches_from(words)?;
     let Some(file) = matches.get_str(FILE) else {

@@ -20,13 +20,14 @@ use Rattle.session_core.specs.Trial.{called, after_calls}
 use Rattle.session_core.proofs.CallsMade.{after-append}
 use Rattle.release_lock.specs.Queues.{Took}
 use Rattle.exec_collector.specs.Seats.{Seat}
+use Rattle.session_worker.specs.declared.withdrawal_counts.WithdrawalCounts.{WithdrawalCounts}
 use Rattle.session_worker.specs.Ends.{is_over, last_calls}
 use Rattle.session_worker.specs.Taking.{with_taken}
 use Rattle.session_worker.specs.Booking.{waiting_in, waiting_after, booked_in, booked_by}
 use Rattle.session_worker.specs.Hearing.{Said, said_after}
 use Rattle.session_worker.specs.Speaking.{Wire, TakesFirst, Speak}
-use Rattle.session_worker.specs.Linking.{SessionIoParts, SpeaksOn, WorkerStateParts, worker_in, BesideShares, beside_shares, asked_too, unsent, calling, MayBook, StandsStill, Moves, Hands, Sends, Asks, CarriesOut, Does, Drains}
-use Rattle.session_worker.specs.Events.{WorkerEvent, calls_in, calls_of, leg_in, legs_in, taken_in, taken_of, withdrawn_in, withdrawn_by, IsIdle, IsAllowedCall, IsAllowed, AreAllowed, WorkerParts, lasting, Goes}
+use Rattle.session_worker.specs.Linking.{SessionIoParts, SpeaksOn, WorkerStateParts, worker_in, BesideShares, beside_shares, asked_too, unsent, calling, MayBook, StandsStill, Moves, Hands, Sends, Asks, CarriesOut, Does, Heeds, Drains}
+use Rattle.session_worker.specs.Events.{WorkerEvent, calls_in, calls_of, leg_in, legs_in, taken_in, taken_of, withdrawn_in, withdrawn_by, IsIdle, IsAllowedCall, IsAllowed, AreAllowed, IsHeeded, AreHeeded, WorkerParts, lasting, Goes}
 use Rattle.session_worker.specs.Events.WorkerEvent.{Calls, Drops, Fails}
 use Rattle.session_worker.specs.Keeping.{Told, TellsEvents}
 use Rattle.session_worker.proofs.Told.{tells_none, tells_on, tells_then, tells_last}
@@ -136,8 +137,27 @@ does_on w a b c first next = record {
   tells = tells_on a.io.told b.io.told c.io.told first.events next.events first.tells next.tells;
 }
 
+heeded-append : (held : Bool) (read : Decoding) (s : SessionParts) (first more : List WorkerEvent)
+    → AreHeeded held read s first → AreHeeded held read (after_calls read s (calls_of first)) more
+    → AreHeeded held read s (first ++ more)
+heeded-append held read s [] more all rest = rest
+heeded-append held read s (event ∷ first) more all rest = (
+  all.0,
+  heeded-append held read (after_calls read s (calls_in event)) first more all.1
+      (subst (λ (t : SessionParts). AreHeeded held read t more) (after-append read s (calls_in event) (calls_of first)) rest),
+)
+
+pub heeds_on : (w : Wording) (held : Bool) (a b c : WorkerStateParts) → Heeds w held a b → Heeds w held b c
+    → Heeds w held a c
+unfolding does_on
+heeds_on w held a b c first next = record {
+  does = does_on w a b c first.does next.does;
+  heeded = heeded-append held w.decoding a.io.session first.does.events next.does.events first.heeded
+      (subst (λ (s : SessionParts). AreHeeded held w.decoding s next.does.events) first.does.goes.session next.heeded);
+}
+
 -- a worker in the middle of a turn, of its parts
-abbrev pub state_of : SessionIoParts → Took → Seat → ℕ → WorkerStateParts
+abbrev pub state_of : SessionIoParts → Took → Seat → WithdrawalCounts → WorkerStateParts
 state_of io took seat withdrawn = record { io = io; took = took; seat = seat; withdrawn = withdrawn }
 
 -- the seat is as it was but for its shares, so no note was booked
@@ -202,6 +222,17 @@ allowed_calls read s (made ∷ calls) e =
     let none = both_empty (leg_in made) (legs_in calls) e in
     (allowed_call s made none.0, allowed_calls read (called read s made).1 calls none.1)
 
+heeded_call : (held : Bool) (s : SessionParts) (made : SessionCall) → leg_in made ≡ [] → IsHeeded held s (Calls made)
+heeded_call true s made e = e
+heeded_call false s made e = tt
+
+heeded_calls : (held : Bool) (read : Decoding) (s : SessionParts) (calls : List SessionCall) → legs_in calls ≡ []
+    → AreHeeded held read s (calling calls)
+heeded_calls held read s [] e = tt
+heeded_calls held read s (made ∷ calls) e =
+    let none = both_empty (leg_in made) (legs_in calls) e in
+    (heeded_call held s made none.0, heeded_calls held read (called read s made).1 calls none.1)
+
 -- ones that book these notes, and withdraw these legs
 goes_books : (read : Decoding) (a b : WorkerParts) (notes : List Note) (ids : List LegIdParts) (calls : List SessionCall)
     → b.session ≡ after_calls read a.session calls → legs_in calls ≡ []
@@ -231,7 +262,7 @@ goes_calls read a b calls session no_leg no_note no_withdrawal took seat =
     goes_books read a b [] [] calls session no_leg no_note no_withdrawal took (still_lasts a.seat b.seat seat)
     (same_booked a.seat b.seat [] seat refl) (same_asked a.seat b.seat [] seat refl)
 
-pub does_moves : (w : Wording) (a b : WorkerStateParts) → Moves w a.io b.io → b.took ≡ a.took
+does_moves : (w : Wording) (a b : WorkerStateParts) → Moves w a.io b.io → b.took ≡ a.took
     → beside_shares b.seat ≡ beside_shares a.seat → Does w a b
 does_moves w a b moves took seat = record {
   events = calling moves.calls;
@@ -242,17 +273,28 @@ does_moves w a b moves took seat = record {
   tells = moves.tells;
 }
 
-pub does_same : (w : Wording) (a b : WorkerStateParts) → b.io.session ≡ a.io.session → b.took ≡ a.took
+pub heeds_moves : (w : Wording) (held : Bool) (a b : WorkerStateParts) → Moves w a.io b.io → b.took ≡ a.took
+    → beside_shares b.seat ≡ beside_shares a.seat → Heeds w held a b
+unfolding does_moves
+heeds_moves w held a b moves took seat = record {
+  does = does_moves w a b moves took seat;
+  heeded = heeded_calls held w.decoding a.io.session moves.calls moves.no_leg;
+}
+
+pub heeds_same : (w : Wording) (held : Bool) (a b : WorkerStateParts) → b.io.session ≡ a.io.session → b.took ≡ a.took
     → beside_shares b.seat ≡ beside_shares a.seat → Tells a.io.wire b.io.wire Stays → b.io.stream ≡ a.io.stream
-    → b.io.told ≡ a.io.told → Does w a b
-does_same w a b session took seat stays stream told =
-    does_moves w a b (moves_same w a.io b.io session stays stream told) took seat
+    → b.io.told ≡ a.io.told → Heeds w held a b
+heeds_same w held a b session took seat stays stream told =
+    heeds_moves w held a b (moves_same w a.io b.io session stays stream told) took seat
+
+pub heeds_none : (w : Wording) (held : Bool) (a : WorkerStateParts) → Heeds w held a a
+heeds_none w held a = heeds_same w held a a refl refl refl (stays_here a.io.wire) refl refl
+
+pub heeds_stay : (w : Wording) (held : Bool) (a b : WorkerStateParts) → b ≡ a → Heeds w held a b
+heeds_stay w held a b same = subst (λ (c : WorkerStateParts). Heeds w held a c) (sym same) (heeds_none w held a)
 
 pub does_none : (w : Wording) (a : WorkerStateParts) → Does w a a
-does_none w a = does_same w a a refl refl refl (stays_here a.io.wire) refl refl
-
-pub does_stay : (w : Wording) (a b : WorkerStateParts) → b ≡ a → Does w a b
-does_stay w a b same = subst (λ (c : WorkerStateParts). Does w a c) (sym same) (does_none w a)
+does_none w a = (heeds_none w false a).does
 
 -- ---- what a step wanted
 
@@ -329,26 +371,35 @@ does_books w a b notes ids books took parts booked asked = record {
 }
 
 -- whether its note was booked or not
-does_carried : (w : Wording) (a b d : WorkerStateParts) (step : Step) (carries : CarriesOut step.withdrawn step.note (concat step.out) b d)
+heeds_books : (w : Wording) (held : Bool) (a b : WorkerStateParts) (notes : List Note) (ids : List LegIdParts)
+    → Books w notes ids a.io b.io → b.took ≡ a.took → lasting b.seat ≡ lasting a.seat
+    → b.seat.booked ≡ a.seat.booked ++ notes → b.seat.asked ≡ a.seat.asked ++ ids → Heeds w held a b
+unfolding does_books
+heeds_books w held a b notes ids books took parts booked asked = record {
+  does = does_books w a b notes ids books took parts booked asked;
+  heeded = heeded_calls held w.decoding a.io.session books.calls books.no_leg;
+}
+
+heeds_carried : (w : Wording) (held : Bool) (a b d : WorkerStateParts) (step : Step) (carries : CarriesOut step.withdrawn step.note (concat step.out) b d)
     → Asks w a.io step b.io → b.took ≡ a.took → beside_shares b.seat ≡ beside_shares a.seat
-    → MayBook step.note b.io.session b.seat.booked b.io.told carries.noted d.seat.booked carries.told → Does w a d
-does_carried w a b d step carries asks took seat (inl none) =
-    does_books w a d [] step.withdrawn
+    → MayBook step.note b.io.session b.seat.booked b.io.told carries.noted d.seat.booked carries.told → Heeds w held a d
+heeds_carried w held a b d step carries asks took seat (inl none) =
+    heeds_books w held a d [] step.withdrawn
     (books_silent w a.io b.io d.io step carries.noted carries.told asks none.0 none.2 carries.writes carries.stream)
     (carries.took ∙ took) (carries.seat ∙ still_lasts a.seat b.seat seat)
     (none.1 ∙ same_booked a.seat b.seat [] seat refl)
     (carries.asked ∙ ap (λ (told : BesideShares). told.asked ++ step.withdrawn) seat)
-does_carried w a b d step carries asks took seat (inr one) =
-    does_books w a d (one.0 ∷ []) step.withdrawn
+heeds_carried w held a b d step carries asks took seat (inr one) =
+    heeds_books w held a d (one.0 ∷ []) step.withdrawn
     (books_note w a.io b.io d.io step carries.noted carries.told one.0 asks one.1 one.2 one.4 carries.writes carries.stream)
     (carries.took ∙ took) (carries.seat ∙ still_lasts a.seat b.seat seat)
     (one.3 ∙ ap (λ (told : BesideShares). told.booked ++ one.0 ∷ []) seat)
     (carries.asked ∙ ap (λ (told : BesideShares). told.asked ++ step.withdrawn) seat)
 
-pub does_asked : (w : Wording) (a b d : WorkerStateParts) (step : Step) → Asks w a.io step b.io
+pub heeds_asked : (w : Wording) (held : Bool) (a b d : WorkerStateParts) (step : Step) → Asks w a.io step b.io
     → b.took ≡ a.took → beside_shares b.seat ≡ beside_shares a.seat → CarriesOut step.withdrawn step.note (concat step.out) b d
-    → Does w a d
-does_asked w a b d step asks took seat carries = does_carried w a b d step carries asks took seat carries.notes
+    → Heeds w held a d
+heeds_asked w held a b d step asks took seat carries = heeds_carried w held a b d step carries asks took seat carries.notes
 
 -- legs that are dropped
 abbrev pub dropping : List PlacedLeg → List WorkerEvent
@@ -371,16 +422,22 @@ dropping-withdrawn : (read : Decoding) (s : SessionParts) (legs : List PlacedLeg
 dropping-withdrawn read s [] = refl
 dropping-withdrawn read s (leg ∷ legs) = ap (λ l. leg.leg.id ∷ l) (dropping-withdrawn read s legs)
 
-allowed_drops : (read : Decoding) (s : SessionParts) (legs : List PlacedLeg) → IsIdle s → AreAllowed read s (dropping legs)
-allowed_drops read s [] idle = tt
-allowed_drops read s (leg ∷ legs) idle = (idle, allowed_drops read s legs idle)
+allowed_drops : (read : Decoding) (s : SessionParts) (legs : List PlacedLeg) → AreAllowed read s (dropping legs)
+allowed_drops read s [] = tt
+allowed_drops read s (leg ∷ legs) = (tt, allowed_drops read s legs)
 
-pub goes_drains : (read : Decoding) (a b : WorkerStateParts) (drains : Drains a b) → IsIdle a.io.session
+heeded_drops : (held : Bool) (read : Decoding) (s : SessionParts) (legs : List PlacedLeg) → (held ≡ false → IsIdle s)
+    → AreHeeded held read s (dropping legs)
+heeded_drops held read s [] idle = tt
+heeded_drops true read s (leg ∷ legs) idle = (tt, heeded_drops true read s legs idle)
+heeded_drops false read s (leg ∷ legs) idle = (idle refl, heeded_drops false read s legs idle)
+
+pub goes_drains : (read : Decoding) (a b : WorkerStateParts) (drains : Drains a b)
     → Goes read (worker_in a) (dropping drains.legs) (worker_in b)
-goes_drains read a b drains idle = record {
+goes_drains read a b drains = record {
   session = drains.io.session ∙ ap (after_calls read a.io.session) (sym (dropping-calls drains.legs));
   taken = drains.taken ∙ ap (λ l. a.took.taken ++ l) (sym (dropping-taken drains.legs));
-  allowed = allowed_drops read a.io.session drains.legs idle;
+  allowed = allowed_drops read a.io.session drains.legs;
   venue = drains.venue;
   seat = ap (λ (told : BesideShares). told.lasts) drains.seat;
   booked = λ waiting.
@@ -391,14 +448,30 @@ goes_drains read a b drains idle = record {
       ∙ ap (λ l. a.seat.asked ++ l) (sym (dropping-withdrawn read a.io.session drains.legs));
 }
 
-pub does_drains : (w : Wording) (a b : WorkerStateParts) → Drains a b → IsIdle a.io.session → Does w a b
-does_drains w a b drains idle = record {
+does_drains : (w : Wording) (a b : WorkerStateParts) → Drains a b → Does w a b
+does_drains w a b drains = record {
   events = dropping drains.legs;
-  goes = goes_drains w.decoding a b drains idle;
+  goes = goes_drains w.decoding a b drains;
   speaks = subst (λ (calls : List SessionCall). SpeaksOn w a.io calls b.io)
       (sym (dropping-calls drains.legs))
       (speaks_same w a.io b.io drains.io.session drains.io.wire drains.io.stream);
   tells = drains.io.told;
+}
+
+pub heeds_drains : (w : Wording) (held : Bool) (a b : WorkerStateParts) → Drains a b → IsIdle a.io.session
+    → Heeds w held a b
+unfolding does_drains
+heeds_drains w held a b drains idle = record {
+  does = does_drains w a b drains;
+  heeded = heeded_drops held w.decoding a.io.session drains.legs (λ e. idle);
+}
+
+-- while the venue is held, whatever the session
+pub heeds_withheld : (w : Wording) (a b : WorkerStateParts) → Drains a b → Heeds w true a b
+unfolding does_drains
+heeds_withheld w a b drains = record {
+  does = does_drains w a b drains;
+  heeded = heeded_drops true w.decoding a.io.session drains.legs (λ e. absurd cc);
 }
 
 pub drains_none : (a b : WorkerStateParts) → StandsStill [] a.io b.io → b.took ≡ a.took
@@ -447,7 +520,7 @@ handed read s leg event (inl e) up =
 handed read s leg event (inr e) up =
     (ap taken_in e, subst (λ (one : WorkerEvent). IsAllowed s one) (sym e) up)
 
-pub does_hands : (w : Wording) (a b : WorkerStateParts) (leg : PlacedLeg) (sent : Bool)
+does_hands : (w : Wording) (a b : WorkerStateParts) (leg : PlacedLeg) (sent : Bool)
     → Hands w leg sent a.io b.io → a.io.session.phase ≡ Up → b.took ≡ with_taken a.took leg
     → beside_shares b.seat ≡ asked_too (unsent leg sent) (beside_shares a.seat) → Does w a b
 does_hands w a b leg sent hands up took seat =
@@ -478,18 +551,35 @@ does_hands w a b leg sent hands up took seat =
       tells = hands.tells;
     }
 
+heeded_hand : (s : SessionParts) (leg : PlacedLeg) (event : WorkerEvent)
+    → (event ≡ Calls (call.SendLeg leg.ordinal leg.leg)) ⊎ (event ≡ Fails leg) → IsHeeded false s event
+heeded_hand s leg event (inl e) = subst (λ (one : WorkerEvent). IsHeeded false s one) (sym e) tt
+heeded_hand s leg event (inr e) = subst (λ (one : WorkerEvent). IsHeeded false s one) (sym e) tt
+
+heeds_hands : (w : Wording) (a b : WorkerStateParts) (leg : PlacedLeg) (sent : Bool)
+    → Hands w leg sent a.io b.io → a.io.session.phase ≡ Up → b.took ≡ with_taken a.took leg
+    → beside_shares b.seat ≡ asked_too (unsent leg sent) (beside_shares a.seat) → Heeds w false a b
+unfolding does_hands
+heeds_hands w a b leg sent hands up took seat = record {
+  does = does_hands w a b leg sent hands up took seat;
+  heeded = (
+    heeded_hand a.io.session leg hands.event hands.of_leg,
+    heeded_calls false w.decoding (after_calls w.decoding a.io.session (calls_in hands.event)) hands.calls hands.no_leg,
+  );
+}
+
 -- a leg that was taken, if one was, and what the session did with it
-pub does_sent : (w : Wording) (a b d : WorkerStateParts) (next : Option PlacedLeg) → a.io.session.phase ≡ Up
+pub heeds_sent : (w : Wording) (a b d : WorkerStateParts) (next : Option PlacedLeg) → a.io.session.phase ≡ Up
     → MatchOption next (b.took ≡ a.took) (λ leg. b.took ≡ with_taken a.took leg) → b.seat ≡ a.seat → b.io ≡ a.io
     → MatchOption next ((d.io ≡ b.io) × (beside_shares d.seat ≡ beside_shares b.seat)) (λ leg. Sends w leg b d)
-    → d.took ≡ b.took → Does w a d
-does_sent w a b d None up took still io sent same =
+    → d.took ≡ b.took → Heeds w false a d
+heeds_sent w a b d None up took still io sent same =
     let all : d.io ≡ a.io = sent.0 ∙ io in
-    does_same w a d (ap (λ (x : SessionIoParts). x.session) all) (same ∙ took) (sent.1 ∙ ap beside_shares still)
+    heeds_same w false a d (ap (λ (x : SessionIoParts). x.session) all) (same ∙ took) (sent.1 ∙ ap beside_shares still)
     (stays_same a.io.wire d.io.wire (ap (λ (x : SessionIoParts). x.wire) all)) (ap (λ (x : SessionIoParts). x.stream) all)
     (ap (λ (x : SessionIoParts). x.told) all)
-does_sent w a b d (Some leg) up took still io sent same =
-    does_hands w a d leg sent.sent (subst (λ (x : SessionIoParts). Hands w leg sent.sent x d.io) io sent.hands) up
+heeds_sent w a b d (Some leg) up took still io sent same =
+    heeds_hands w a d leg sent.sent (subst (λ (x : SessionIoParts). Hands w leg sent.sent x d.io) io sent.hands) up
     (same ∙ took) (sent.seat ∙ ap (λ (seat : Seat). asked_too (unsent leg sent.sent) (beside_shares seat)) still)
 
 -- a session that a turn left closed, and one that is abandoned

@@ -1,5 +1,5 @@
 -- What a venue's worker does: the calls of its session, and what becomes of the legs that it takes from its ring.
-use Rattle.std.specs.Prelude.{◌≡◌, ℕ, false, List, [], ◌∷◌, ◌++◌, Option, None}
+use Rattle.std.specs.Prelude.{◌≡◌, ℕ, Bool, true, false, List, [], ◌∷◌, ◌++◌, Option, None}
 use Rattle.leg.specs.LegId.{LegIdParts}
 use Rattle.leg.specs.declared.placed_leg.PlacedLeg.{PlacedLeg}
 use Rattle.dialect.specs.declared.note.Note.{Note}
@@ -66,20 +66,34 @@ withdrawn_by read s (event ∷ events) =
 abbrev pub IsIdle : SessionParts → Type 0
 IsIdle s = s.phase ≡ Up → may_write s ≡ false
 
--- a leg is handed to the session only where that is up, and dropped only where it can't send one
+-- a leg is handed to the session only where that is up
 abbrev pub IsAllowedCall : SessionParts → SessionCall → Type 0
 IsAllowedCall s (call.SendLeg ordinal leg) = s.phase ≡ Up
 IsAllowedCall s _ = Unit {0}
 
 abbrev pub IsAllowed : SessionParts → WorkerEvent → Type 0
 IsAllowed s (Calls made) = IsAllowedCall s made
-IsAllowed s (Drops leg) = IsIdle s
+IsAllowed s (Drops leg) = Unit {0}
 IsAllowed s (Fails leg) = s.phase ≡ Up
 
 abbrev pub AreAllowed : Decoding → SessionParts → List WorkerEvent → Type 0
 AreAllowed read s [] = Unit {0}
 AreAllowed read s (event ∷ events) =
     IsAllowed s event × AreAllowed read (after_calls read s (calls_in event)) events
+
+-- while its venue is held a worker hands no leg to its session; else it drops one only where the session can't send it
+abbrev pub IsHeeded : Bool → SessionParts → WorkerEvent → Type 0
+IsHeeded true s (Calls made) = leg_in made ≡ []
+IsHeeded true s (Drops leg) = Unit {0}
+IsHeeded true s (Fails leg) = ⊥
+IsHeeded false s (Calls made) = Unit {0}
+IsHeeded false s (Drops leg) = IsIdle s
+IsHeeded false s (Fails leg) = Unit {0}
+
+abbrev pub AreHeeded : Bool → Decoding → SessionParts → List WorkerEvent → Type 0
+AreHeeded held read s [] = Unit {0}
+AreHeeded held read s (event ∷ events) =
+    IsHeeded held s event × AreHeeded held read (after_calls read s (calls_in event)) events
 
 -- a worker as its events change it: its session, the venue and the legs taken, its seat, what its link tells, and what
 -- its journal was told

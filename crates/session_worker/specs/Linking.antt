@@ -2,6 +2,9 @@
 use Rattle.std.specs.Prelude.{◌≡◌, ◌⊎◌, ℕ, Bool, true, false, List, [], ◌∷◌, ◌++◌, map, Option, Some, None, Ok, Err}
 use Rattle.fix_text.specs.Tagged.{Tagged}
 use Rattle.fix_text.specs.Reading.{Stream, next_read, fed}
+use Rattle.fix_tags.specs.Body.{Body}
+use Rattle.fix_tags.specs.declared.body.Body.TheVariants as body
+use Rattle.fix_tags.specs.declared.session_body.SessionBody.TheVariants as admin
 use Rattle.fix_tags.specs.Reading.{envelope_read}
 use Rattle.fix_tags.specs.Stamp.{StampParts}
 use Rattle.fix_tags.specs.declared.envelope.Envelope.{Envelope}
@@ -14,6 +17,8 @@ use Rattle.link.specs.Traffic.{Tells, Takes, TakesPart, Stays}
 use Rattle.session_core.specs.declared.session_call.SessionCall.{SessionCall}
 use Rattle.session_core.specs.declared.session_call.SessionCall.TheVariants as call
 use Rattle.session_core.specs.declared.step.Step.{Step}
+use Rattle.session_core.specs.declared.phase.Phase.{Phase}
+use Rattle.session_core.specs.declared.phase.Phase.TheVariants as phase
 use Rattle.session_core.specs.Session.{SessionParts, is_connected}
 use Rattle.session_core.specs.Turn.{StepParts}
 use Rattle.session_core.specs.Receiving.{confirm}
@@ -24,10 +29,11 @@ use Rattle.release_lock.specs.Queues.{Took}
 use Rattle.exec_collector.specs.Seats.{Seat}
 use Rattle.session_worker.specs.declared.reading.Heard.{Heard}
 use Rattle.session_worker.specs.declared.reading.Heard.TheVariants as heard
+use Rattle.session_worker.specs.declared.withdrawal_counts.WithdrawalCounts.{WithdrawalCounts}
 use Rattle.session_worker.specs.Hearing.{Said, said_with, said_after, Hears, ReaderOn}
 use Rattle.session_worker.specs.Booking.{booked_by}
 use Rattle.session_worker.specs.Speaking.{Wire, Speak, TakesFirst}
-use Rattle.session_worker.specs.Events.{WorkerEvent, WorkerParts, Lasting, lasting, calls_in, calls_of, legs_in, withdrawn_by, Goes}
+use Rattle.session_worker.specs.Events.{WorkerEvent, WorkerParts, Lasting, lasting, calls_in, calls_of, legs_in, withdrawn_by, AreHeeded, Goes}
 use Rattle.session_worker.specs.Events.WorkerEvent.{Calls, Drops, Fails}
 use Rattle.session_worker.specs.Keeping.{Told, TellsEvents, heard_call}
 
@@ -168,6 +174,27 @@ pub record Receives (w : Wording) (before : SessionParts) (stream : Stream) (ste
   pub says : envelope_read fields ≡ Ok envelope
   pub gave : Gave w (call.Receive envelope) before step after
 
+-- both have logged on, and the session hasn't logged out
+abbrev pub is_logged_on : Phase → Bool
+is_logged_on phase.Settling = true
+is_logged_on phase.Up = true
+is_logged_on phase.Closing = true
+is_logged_on _ = false
+
+-- a message that is a Logout
+abbrev pub is_logout : Body → Bool
+is_logout (body.Session admin.Logout) = true
+is_logout _ = false
+
+-- the next message is a Logout with which the exchange ends such a connection
+pub record IsParting (before : SessionParts) (stream : Stream) : Type 0 where
+  pub fields : List Tagged
+  pub envelope : Envelope
+  pub next : (next_read stream).frame ≡ Some fields
+  pub says : envelope_read fields ≡ Ok envelope
+  pub logged_on : is_logged_on before.phase ≡ true
+  pub logout : is_logout envelope.body ≡ true
+
 -- what came of the next message
 abbrev pub HeardGives : Wording → SessionParts → Stream → Heard → SessionParts → Type 0
 HeardGives w before stream heard.Nothing after = (after ≡ before) × ((next_read stream).frame ≡ None)
@@ -175,6 +202,7 @@ HeardGives w before stream (heard.Step step words) after = Receives w before str
 HeardGives w before stream heard.Malformed after =
     (fields : List Tagged) × (fault : TagFault) × ((next_read stream).frame ≡ Some fields)
     × (envelope_read fields ≡ Err fault) × (after ≡ (malformed before).1)
+HeardGives w before stream heard.Parted after = (after ≡ before) × IsParting before stream
 HeardGives w before stream heard.OutOfMemory after = after ≡ before
 
 -- the reader then stands behind it, unless memory was wanted
@@ -189,6 +217,7 @@ HeardTold stream (heard.Step step words) before after =
 HeardTold stream heard.Malformed before after =
     TellsEvents before (Calls (heard_call (next_read stream).frame) ∷ []) after
 HeardTold stream heard.Nothing before after = after ≡ before
+HeardTold stream heard.Parted before after = after ≡ before
 HeardTold stream heard.OutOfMemory before after = after ≡ before
 
 -- what came of a call that may give a step: it did, and what it wants isn't done yet; or calls that gave none
@@ -196,12 +225,13 @@ abbrev pub AsksOrMoves : Wording → SessionIoParts → Option Step → SessionI
 AsksOrMoves w before None after = Moves w before after
 AsksOrMoves w before (Some step) after = Asks w before step after
 
--- a worker in the middle of a turn: its session over its link, what it took, its seat, and how many legs it withdrew
+-- a worker in the middle of a turn: its session over its link, what it took, its seat, and what became of the legs that
+-- it asked the book to withdraw
 pub record WorkerStateParts : Type 0 where
   pub io : SessionIoParts
   pub took : Took
   pub seat : Seat
-  pub withdrawn : ℕ
+  pub withdrawn : WithdrawalCounts
 
 abbrev pub worker_in : WorkerStateParts → WorkerParts
 worker_in p =
@@ -213,6 +243,11 @@ pub record Does (w : Wording) (before after : WorkerStateParts) : Type 0 where
   pub goes : Goes w.decoding (worker_in before) events (worker_in after)
   pub speaks : SpeaksOn w before.io (calls_of events) after.io
   pub tells : TellsEvents before.io.told events after.io.told
+
+-- the same, where its venue was held meanwhile, or wasn't
+pub record Heeds (w : Wording) (held : Bool) (before after : WorkerStateParts) : Type 0 where
+  pub does : Does w before after
+  pub heeded : AreHeeded held w.decoding before.io.session does.events
 
 -- a leg was handed to the session; where that didn't send it, the book was asked to withdraw it
 pub record Sends (w : Wording) (leg : PlacedLeg) (before after : WorkerStateParts) : Type 0 where

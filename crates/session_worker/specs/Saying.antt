@@ -24,4 +24,5 @@ abbrev pub HeardSays : Stream → Heard → Type 0
 HeardSays stream heard.Nothing = Unit {0}
 HeardSays stream (heard.Step step words) = Says stream step.note words
 HeardSays stream heard.Malformed = Unit {0}
+HeardSays stream heard.Parted = Unit {0}
 HeardSays stream heard.OutOfMemory = Unit {0}

@@ -31,6 +31,11 @@ abbrev pub pause_of : Pace → ℕ
 pause_of (Turns quiet silent) = 0
 pause_of Time = 250
 
+-- the least pause after the exchange logged out first
+abbrev pub parted_pause_of : Pace → ℕ
+parted_pause_of (Turns quiet silent) = 0
+parted_pause_of Time = 5000
+
 -- a moment that lies a pause behind another, less a quarter of it at most; or it is the clock's last one
 abbrev pub IsPaused : ℕ → ℕ → ℕ → Type 0
 IsPaused now pause due = (due ≤ now + pause) × (min (now * 4 + pause * 3) 73786976294838206460 ≤ due * 4)

@@ -3,11 +3,12 @@
 ghost use Rattle.std.specs.Prelude.{◌≡◌};
 ghost use Rattle.sweep_release.specs.Desk.{shut};
 ghost use Rattle.sweep_release.specs.History.{KeptDesk as ADesk};
-ghost use Rattle.release_lock.specs.Locked.{Replays, OnlyTurns};
+ghost use Rattle.release_lock.specs.Held.{OnlyLowers};
+ghost use Rattle.release_lock.specs.Locked.{Replays};
 
 use kept_link::Telling;
 use leg::VenueId;
-use release_lock::{ReleaseLock, Run};
+use release_lock::{ReleaseLock, Run, let_down};
 use std::sync::Wait;
 use sweep_release::Desk;
 
@@ -25,16 +26,8 @@ pub fn shut_gate<L: Run, N: Telling>(rt: &impl Wait, lock: &ReleaseLock<L, N>, v
     lock.with(rt, |desk: &mut Desk| let_shut(desk, venue));
 }
 
-pub(crate) fn let_down(desk: &mut Desk, venue: VenueId)
-    ensures { OnlyTurns desk.old desk.new }
-{
-    if usize::from(venue.number()) < desk.venues() {
-        desk.gate_down(venue);
-    }
-}
-
 fn let_shut(desk: &mut Desk, venue: VenueId)
-    ensures turns { OnlyTurns desk.old desk.new }
+    ensures lowers { OnlyLowers desk.old desk.new }
     ensures desk { desk.new.desk ≡ shut desk.old.desk venue }
 {
     if usize::from(venue.number()) < desk.venues() {

@@ -4,9 +4,9 @@
 //! Promises:
 //! - `Worker::run`: there is a list of events, calls of its session and legs taken, by which its session is that after
 //!   these calls, from the start on, and the legs that it took are just those of the events, in order. A leg is handed
-//!   to the session only where that is up, and dropped only where it isn't or no number is left. The notes that its
-//!   session confirmed are just those that the book took on its seat, in order. The legs that the book was asked to
-//!   withdraw there are just those that its session names as withdrawn, and those that it took and didn't send, in
+//!   to the session only where that is up; one is dropped there only in a turn that found the venue held, or where no
+//!   number is left (`Heeds`, private). The notes confirmed are just those that the book took on its seat, in order.
+//!   The legs that it was asked to withdraw are just those its session names as withdrawn, and those not sent, in
 //!   order. It ended as `Closed` exactly where the last turn left the session closed, else as `TurnLimit` or `Stopped`.
 //!   So whatever is promised of a session over any calls holds of a worker's, whatever its link gives.
 //! - Where the link tells its traffic, the same events say what went over it. A connection is dialled just before each
@@ -17,8 +17,9 @@
 //!   call is told once the session has made it and before its frames are written; a leg is told before the book is
 //!   asked to withdraw it. No byte is written, and no leg withdrawn, while a line is left to keep: `Door::write` of
 //!   `kept_link` requires it. A journal that has no room makes its worker wait.
-//! - A leg that the book was asked to withdraw is counted just where it did, and the worker's seat then gains its
-//!   shares (`WorkerState::withdraw` and `withdraw_all`, private). What a worker tells on its board is claimed nowhere.
+//! - A leg that the book was asked to withdraw is counted as withdrawn just where it did, and the worker's seat then
+//!   gains its shares; where it refused, the refusal is counted (`WorkerState::withdraw` and `withdraw_all`, private).
+//!   What a worker tells on its board is claimed nowhere.
 //! - `WorkerEnd::in_doubt` gives exactly the ordinals of the legs taken that the session has in doubt.
 //! - `run_all` promises the same of each of its workers, in order.
 //! - `audit` is `Ok` exactly where each worker took the first legs released to the venue at its place, the workers'
@@ -52,6 +53,7 @@ mod stop;
 mod takings;
 mod telling;
 mod timer;
+mod withdrawal_counts;
 mod worker;
 mod worker_end;
 mod worker_state;

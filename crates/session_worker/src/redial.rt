@@ -1,12 +1,15 @@
 //! When a worker dials again.
 
-ghost use Rattle.std.specs.Prelude.{◌≡◌, ◌-◌, ◌*◌, ◌≤◌, ◌↔◌, true, false, IsTrue, min};
-ghost use Rattle.session_worker.specs.Timing.{IsPaused, pause_of};
+ghost use Rattle.std.specs.Prelude.{◌≡◌, ◌-◌, ◌*◌, ◌≤◌, ◌↔◌, true, false, IsTrue, max, min};
+ghost use Rattle.session_worker.specs.Timing.{IsPaused, parted_pause_of, pause_of};
 
 use crate::Pace;
 
 /// The pause after a dial that failed, in milliseconds, or after a connection on which the session never came up.
 const FIRST_PAUSE: u64 = 250;
+
+/// The least pause after the exchange logged out first.
+const PARTED_PAUSE: u64 = 5_000;
 
 /// The longest pause.
 const LAST_PAUSE: u64 = 30_000;
@@ -17,6 +20,8 @@ const LAST_PAUSE: u64 = 30_000;
 #[derive(Drop)]
 pub(crate) struct Redial {
     first_pause: u64,
+    /// The least pause after the exchange logged out first, in milliseconds.
+    parted_pause: u64,
     /// The next pause, in milliseconds.
     pause: u64,
     /// Before this moment no dial is made.
@@ -32,17 +37,19 @@ impl Redial {
     pub fn new(pace: Pace, seed: u64) -> Redial
         ensures due { result.due ≡ 0 }
         ensures pause { (result.pause ≡ pause_of pace) × (result.first_pause ≡ pause_of pace) }
+        ensures parted { result.parted_pause ≡ parted_pause_of pace }
         ensures none { result.dialled ≡ false }
     {
-        let first_pause = match pace {
+        let (first_pause, parted_pause) = match pace {
             Pace::Turns {
                 quiet_turns: _,
                 silent_turns: _,
-            } => 0,
-            Pace::Time => FIRST_PAUSE,
+            } => (0, 0),
+            Pace::Time => (FIRST_PAUSE, PARTED_PAUSE),
         };
         Redial {
             first_pause,
+            parted_pause,
             pause: first_pause,
             due: 0,
             dialled: false,
@@ -63,6 +70,14 @@ impl Redial {
     {
         self.pause = self.first_pause;
         self.dialled = false;
+    }
+
+    /// The exchange logged out first: a pause comes before the next dial too.
+    pub fn parted(&mut self)
+        ensures { self.new ≡ record self.old { pause = max self.old.pause self.old.parted_pause; dialled = true } }
+    {
+        self.pause = self.pause.max(self.parted_pause);
+        self.dialled = true;
     }
 
     /// The session is down at this moment. After a dial the pause begins.

@@ -41,6 +41,13 @@ impl Reporter {
         }
     }
 
+    /// The book refused to withdraw so many legs.
+    pub fn tell_refused(&self, refused: u64) {
+        if let Some(board) = &self.board {
+            board.tell_refused(refused);
+        }
+    }
+
     /// A dial was refused. It is told once it is known when the next one comes.
     pub fn refused(&mut self) {
         self.is_refused = true;

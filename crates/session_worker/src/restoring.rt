@@ -4,7 +4,8 @@ ghost use Rattle.std.specs.Prelude.{◌≡◌, ◌↔◌, [], ◌∷◌, length,
 ghost use Rattle.fix_text.specs.Reading.{fields_of};
 ghost use Rattle.dialect.specs.Wording.{Decoding};
 ghost use Rattle.resend.specs.Window.{window};
-ghost use Rattle.release_lock.specs.Locked.{Replays, OnlyTurns};
+ghost use Rattle.release_lock.specs.Held.{OnlyLowers};
+ghost use Rattle.release_lock.specs.Locked.{Replays};
 ghost use Rattle.session_core.specs.Session.{new_session};
 ghost use Rattle.session_core.specs.Calling.{broken};
 ghost use Rattle.session_core.specs.declared.session_call.SessionCall.TheVariants as call;
@@ -13,10 +14,10 @@ ghost use Rattle.session_worker.specs.Keeping.{call_of, heard_call, leg_event};
 ghost use Rattle.session_worker.specs.Taking.{Raises};
 ghost use Rattle.session_worker.specs.Restoring.{AsksFor, CarriesOutAgain, Follows, Redoes, RedoesLine, TakesMore, new_start, worker_from};
 
-use crate::gates::let_down;
 use crate::reading::words_by;
 use crate::session_io::SessionIo;
 use crate::takings::Takings;
+use crate::withdrawal_counts::WithdrawalCounts;
 use crate::worker_state::WorkerState;
 use crate::{Pace, Worker};
 use clock::Clock;
@@ -28,7 +29,7 @@ use journal_words::{Act, Deed, DeedLine, LegAct, WordsFault, read_deed};
 use kept_link::{Telling, Untold};
 use leg::{LegId, PlacedLeg, VenueId};
 use link::Link;
-use release_lock::{LockedDesk, Run, VenueDrain};
+use release_lock::{LockedDesk, Run, VenueDrain, let_down};
 use report_words::ReportWords;
 use session_core::{LegIds, Session, SessionFault, Step};
 use std::alloc::{AllocError, Global};
@@ -63,7 +64,7 @@ pub struct Start<L: Run, M: Accounts> {
     session: Session,
     takings: Takings<L>,
     seat: WorkerSeat<M>,
-    withdrawn: u64,
+    withdrawn: WithdrawalCounts,
     /// How many of the legs taken the lines tell of.
     told: usize,
     /// How many notes were booked.
@@ -102,7 +103,7 @@ impl<L: Run, M: Accounts> Start<L, M> {
             session: Session::new(alloc, config),
             takings: Takings::new(alloc, drain),
             seat,
-            withdrawn: 0,
+            withdrawn: WithdrawalCounts::none(),
             told: 0,
             booked: 0,
             waiting: None,
@@ -153,7 +154,7 @@ impl<L: Run, M: Accounts> Start<L, M> {
 
     /// Puts it down again.
     pub fn lower(&self, desk: &mut LockedDesk<L>)
-        ensures turns { OnlyTurns desk.old desk.new }
+        ensures lowers { OnlyLowers desk.old desk.new }
         ensures replays { Replays desk.old × Replays desk.new }
     {
         let venue = self.takings.venue();
@@ -276,7 +277,7 @@ impl<L: Run, M: Accounts> Start<L, M> {
         self.withdraw_all(rt, collector, withdrawn);
     }
 
-    /// Asks the book to withdraw legs, and counts those that it does.
+    /// Asks the book to withdraw legs, and counts what it answers.
     fn withdraw_all(&mut self, rt: &impl Wait, collector: &Collector<M>, ids: LegIds)
         ensures { AsksFor ids self.old self.new }
     {
@@ -286,13 +287,13 @@ impl<L: Run, M: Accounts> Start<L, M> {
         }
     }
 
-    /// Asks the book to withdraw a leg, and counts it if it does. That it is withdrawn is kept: a line says so.
+    /// Asks the book to withdraw a leg, and counts what it answers. That it is withdrawn is kept: a line says so.
     fn withdraw(&mut self, rt: &impl Wait, collector: &Collector<M>, id: LegId)
         ensures { AsksFor (id ∷ []) self.old self.new }
     {
         match collector.withdraw(rt, id, &mut self.seat, &Untold) {
-            Ok(()) => self.withdrawn = self.withdrawn.saturating_add(1),
-            Err(_) => {}
+            Ok(()) => self.withdrawn.count_done(),
+            Err(_) => self.withdrawn.count_refused(),
         }
     }
 

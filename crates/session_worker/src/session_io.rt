@@ -66,6 +66,8 @@ pub(crate) struct SessionIo<K: Link, C: Clock + Drop, J: Telling> {
     fencing: Fencing,
     redial: Redial,
     reporter: Reporter,
+    /// Whether it is dialled again after the exchange logged out first.
+    reopens: bool,
 }
 
 impl<K: Link, C: Clock + Drop, J: Telling> Model for SessionIo<K, C, J> {
@@ -108,6 +110,7 @@ impl<K: Link, C: Clock + Drop, J: Telling> SessionIo<K, C, J> {
             fencing: Fencing::new(pace),
             redial: Redial::new(pace, u64::from(venue.number())),
             reporter: Reporter::new(),
+            reopens: false,
         }
     }
 
@@ -139,6 +142,7 @@ impl<K: Link, C: Clock + Drop, J: Telling> SessionIo<K, C, J> {
             fencing: _,
             redial: _,
             reporter: _,
+            reopens: _,
         } = self;
         (session, door.into_link(), journal)
     }
@@ -148,6 +152,13 @@ impl<K: Link, C: Clock + Drop, J: Telling> SessionIo<K, C, J> {
         ensures { self.new ≡ self.old }
     {
         self.reporter.tell_on(board);
+    }
+
+    /// From now on it is dialled again after the exchange logged out first, or isn't.
+    pub(crate) fn set_reopens(&mut self, reopens: bool)
+        ensures { self.new ≡ self.old }
+    {
+        self.reopens = reopens;
     }
 
     pub(crate) fn phase(&self) -> Phase
@@ -451,6 +462,7 @@ impl<K: Link, C: Clock + Drop, J: Telling> SessionIo<K, C, J> {
         match hear(
             rt,
             dialect,
+            self.reopens,
             &mut self.reader,
             &mut self.session,
             &stamp,
@@ -467,6 +479,11 @@ impl<K: Link, C: Clock + Drop, J: Telling> SessionIo<K, C, J> {
             Heard::Malformed => {
                 self.door.heard(self.reader.waiting());
                 self.hang_up(Loss::Ended(Ended::Malformed));
+                None
+            }
+            Heard::Parted => {
+                self.redial.parted();
+                self.break_off(rt, Loss::Parted);
                 None
             }
             Heard::OutOfMemory => {
@@ -495,9 +512,10 @@ impl<K: Link, C: Clock + Drop, J: Telling> SessionIo<K, C, J> {
         ensures { self.new ≡ self.old }
     {
         self.redial.came_up();
+        self.door.came_up();
     }
 
-    /// Tells that orders are taken.
+    /// Tells that the session is up.
     pub(crate) fn tell_up(&self) {
         self.reporter.tell(Progress::Up);
     }
@@ -527,8 +545,14 @@ impl<K: Link, C: Clock + Drop, J: Telling> SessionIo<K, C, J> {
             fencing: _,
             redial: _,
             reporter,
+            reopens: _,
         } = self;
         reporter.count(session, taken, withdrawn, timer.now(), timer.received());
+    }
+
+    /// Tells how many legs the book refused to withdraw.
+    pub(crate) fn tell_refused(&self, refused: u64) {
+        self.reporter.tell_refused(refused);
     }
 
     /// The milliseconds that the clock tells.

@@ -1,8 +1,9 @@
 //! What a worker took from its venue's ring.
 
-ghost use Rattle.std.specs.Prelude.{◌≡◌, ◌<◌, ◌↔◌, [], length, min, slice_get, true, IsTrue, MatchResult, Some};
+ghost use Rattle.std.specs.Prelude.{◌≡◌, ◌⊎◌, ◌<◌, ◌↔◌, [], length, min, slice_get, true, IsTrue, MatchResult, Some};
 ghost use Rattle.leg.specs.Answering.{Answers};
 ghost use Rattle.sweep_release.specs.History.{KeptDesk as ADesk, without_room};
+ghost use Rattle.release_lock.specs.Held.{IsHeldBack};
 ghost use Rattle.release_lock.specs.Locked.{Replays};
 ghost use Rattle.release_lock.specs.Queues.{raise};
 ghost use Rattle.session_worker.specs.Taking.{Raises, TakesNext};
@@ -78,15 +79,16 @@ impl<L: Run> Takings<L> {
         }
     }
 
-    /// Puts the venue's gate up, once every leg released to it was taken.
+    /// Puts the venue's gate up, once every leg released to it was taken and the venue isn't held.
     pub(crate) fn raise<N: Telling>(
         &self,
         rt: &impl Wait,
         lock: &ReleaseLock<L, N>,
     ) -> Result<(), GateFault>
         ensures { (before : ADesk) × (after : ADesk) × Replays before × Replays after
-            × Answers GateFault.OutOfMemory (without_room before)
-            (raise (without_room before) self.now.venue (length self.now.taken)) result (without_room after) }
+            × ((Answers GateFault.OutOfMemory (without_room before)
+            (raise (without_room before) self.now.venue (length self.now.taken)) result (without_room after))
+            ⊎ IsHeldBack self.now.venue before result after) }
     {
         lock.raise(rt, &self.drain)
     }

@@ -8,6 +8,7 @@ ghost use Rattle.session_worker.specs.Ends.{Runs};
 use crate::gates::shut_gate;
 use crate::session_io::SessionIo;
 use crate::takings::Takings;
+use crate::withdrawal_counts::WithdrawalCounts;
 use crate::worker_state::WorkerState;
 use crate::{Pace, Stop, WorkerEnd};
 use clock::Clock;
@@ -103,7 +104,7 @@ impl<D: Dialect + Drop, K: Link, C: Clock + Drop, L: Run, M: Accounts, J: Tellin
                 io: SessionIo::new(alloc, link, journal, clock, config, drain.venue(), pace),
                 takings: Takings::new(alloc, drain),
                 seat,
-                withdrawn: 0,
+                withdrawn: WithdrawalCounts::none(),
                 raised: true,
             },
         }
@@ -114,7 +115,18 @@ impl<D: Dialect + Drop, K: Link, C: Clock + Drop, L: Run, M: Accounts, J: Tellin
         ensures { result ≡ self }
     {
         let mut worker = self;
+        board.tell_refused(worker.state.withdrawn.refused);
         worker.state.io.tell_on(board);
+        worker
+    }
+
+    /// The same worker, which dials again after its exchange logged out first, if it `reopens`. Otherwise its session
+    /// is over then.
+    pub fn reopening(self, reopens: bool) -> Worker<D, K, C, L, M, J>
+        ensures { result ≡ self }
+    {
+        let mut worker = self;
+        worker.state.io.set_reopens(reopens);
         worker
     }
 

@@ -1,6 +1,6 @@
 //! What a worker does in its turns.
 
-ghost use Rattle.std.specs.Prelude.{◌≡◌, ◌++◌, ◌∷◌, [], true, false, MatchOption, MatchResult};
+ghost use Rattle.std.specs.Prelude.{◌≡◌, ◌++◌, ◌∷◌, [], Bool, true, false, MatchOption, MatchResult};
 ghost use Rattle.std.specs.List.{concat};
 ghost use Rattle.dialect.specs.Wording.{Decoding};
 ghost use Rattle.link.specs.Traffic.{Tells, Stays};
@@ -11,7 +11,7 @@ ghost use Rattle.session_core.specs.declared.session_call.SessionCall.TheVariant
 ghost use Rattle.session_worker.specs.Events.{Goes, lasting};
 ghost use Rattle.session_worker.specs.Events.WorkerEvent.{Calls, Drops};
 ghost use Rattle.session_worker.specs.Keeping.{TellsEvents};
-ghost use Rattle.session_worker.specs.Linking.{worker_in, beside_shares, asked_too, MayBook, Sends, Does, Drains, CarriesOut, StandsStill};
+ghost use Rattle.session_worker.specs.Linking.{worker_in, beside_shares, asked_too, MayBook, Sends, Does, Heeds, Drains, CarriesOut, StandsStill};
 ghost use Rattle.session_worker.specs.Withdrawing.{Withdraws, WithdrawsAll};
 ghost use Rattle.session_worker.specs.Ends.{is_over, IsReason, last_calls};
 ghost use Rattle.session_worker.specs.Taking.{TakesNext};
@@ -20,6 +20,7 @@ use crate::gates::{lower, shut_gate};
 use crate::patience::Patience;
 use crate::session_io::SessionIo;
 use crate::takings::Takings;
+use crate::withdrawal_counts::WithdrawalCounts;
 use crate::{EndReason, Stop};
 use clock::Clock;
 use dialect::{Dialect, Note};
@@ -58,14 +59,14 @@ pub(crate) enum Drained {
     NoRoom,
 }
 
-/// What a worker works with: its session over its link, what it took from the ring, its seat, how many legs it withdrew
-/// in the book, and whether its gate may be up. Contracts see the first four.
+/// What a worker works with: its session over its link, what it took from the ring, its seat, what became of the legs
+/// that it asked the book to withdraw, and whether its gate may be up. Contracts see the first four.
 #[derive(Drop)]
 pub(crate) struct WorkerState<K: Link, C: Clock + Drop, L: Run, M: Accounts, J: Telling> {
     pub(crate) io: SessionIo<K, C, J>,
     pub(crate) takings: Takings<L>,
     pub(crate) seat: WorkerSeat<M>,
-    pub(crate) withdrawn: u64,
+    pub(crate) withdrawn: WithdrawalCounts,
     pub(crate) raised: bool,
 }
 
@@ -104,7 +105,8 @@ impl<K: Link, C: Clock + Drop, L: Run, M: Accounts, J: Telling> WorkerState<K, C
                 break;
             }
             self.heed(rt, lock, stop);
-            if self.turn(rt, dialect, lock, collector, &mut buf) {
+            let held = lock.is_held(self.takings.venue());
+            if self.turn(rt, dialect, lock, collector, &mut buf, held) {
                 rests += 1;
             }
         }
@@ -140,7 +142,8 @@ impl<K: Link, C: Clock + Drop, L: Run, M: Accounts, J: Telling> WorkerState<K, C
         self.io.abandon(rt);
     }
 
-    /// One turn, which reads into this buffer, and whether the worker rested at its end, since it had nothing to do.
+    /// One turn, which reads into this buffer, and whether the worker rested at its end, since it had nothing to do. In
+    /// a turn before which the venue was found held no leg is sent.
     pub(crate) fn turn<D: Dialect, N: Telling>(
         &mut self,
         rt: &impl Wait,
@@ -148,12 +151,13 @@ impl<K: Link, C: Clock + Drop, L: Run, M: Accounts, J: Telling> WorkerState<K, C
         lock: &ReleaseLock<L, N>,
         collector: &Collector<M>,
         buf: &mut [u8],
+        held: bool,
     ) -> bool
-        ensures { Does (D.wording dialect.now) self.old self.new }
+        ensures { Heeds (D.wording dialect.now) held self.old self.new }
     {
         let taken = self.takings.count();
         self.io.begin_turn();
-        self.begin(rt, dialect, lock, collector);
+        self.begin(rt, dialect, lock, collector, held);
         self.close_if_shut(rt, dialect, lock, collector);
         self.listen(rt, dialect, collector, buf);
         self.write_if_quiet(rt, dialect, collector);
@@ -173,10 +177,10 @@ impl<K: Link, C: Clock + Drop, L: Run, M: Accounts, J: Telling> WorkerState<K, C
     {
         let count = self.takings.count();
         if count != taken || !self.io.is_idle() {
-            self.io.tell_legs_if_due(count, self.withdrawn);
+            self.io.tell_legs_if_due(count, self.withdrawn.done);
             return false;
         }
-        self.io.tell_legs(count, self.withdrawn);
+        self.io.tell_legs(count, self.withdrawn.done);
         self.io.rest();
         true
     }
@@ -188,12 +192,13 @@ impl<K: Link, C: Clock + Drop, L: Run, M: Accounts, J: Telling> WorkerState<K, C
         dialect: &D,
         lock: &ReleaseLock<L, N>,
         collector: &Collector<M>,
+        held: bool,
     )
-        ensures { Does (D.wording dialect.now) self.old self.new }
+        ensures { Heeds (D.wording dialect.now) held self.old self.new }
     {
         match self.io.phase() {
             Phase::Down => self.start(rt, dialect, lock, collector),
-            Phase::Up => self.send_waiting(rt, dialect, lock, collector),
+            Phase::Up => self.serve(rt, dialect, lock, collector, held),
             Phase::LoggingOn => {}
             Phase::Settling => {}
             Phase::Closing => {}
@@ -211,7 +216,7 @@ impl<K: Link, C: Clock + Drop, L: Run, M: Accounts, J: Telling> WorkerState<K, C
         collector: &Collector<M>,
     )
         requires { self.old.io.session.phase ≡ phase.Down }
-        ensures { Does (D.wording dialect.now) self.old self.new }
+        ensures { (held : Bool) → Heeds (D.wording dialect.now) held self.old self.new }
     {
         self.put_down(rt, lock);
         match self.drain(rt, lock, collector) {
@@ -241,7 +246,7 @@ impl<K: Link, C: Clock + Drop, L: Run, M: Accounts, J: Telling> WorkerState<K, C
         collector: &Collector<M>,
     )
         requires { self.old.io.session.phase ≡ phase.Down }
-        ensures { Does (D.wording dialect.now) self.old self.new }
+        ensures { (held : Bool) → Heeds (D.wording dialect.now) held self.old self.new }
     {
         let venue = self.takings.venue();
         if lock.is_shut(venue) && !self.io.in_doubt() {
@@ -258,7 +263,48 @@ impl<K: Link, C: Clock + Drop, L: Run, M: Accounts, J: Telling> WorkerState<K, C
         self.io.abandon(rt);
     }
 
-    /// In `Up`: the gate is put up, and the legs that wait are sent, so many at most.
+    /// In `Up`: the legs that wait are sent, or dropped while the venue is held.
+    fn serve<D: Dialect, N: Telling>(
+        &mut self,
+        rt: &impl Wait,
+        dialect: &D,
+        lock: &ReleaseLock<L, N>,
+        collector: &Collector<M>,
+        held: bool,
+    )
+        ensures { Heeds (D.wording dialect.now) held self.old self.new }
+    {
+        if held {
+            self.withhold(rt, lock, collector)
+        } else {
+            self.send_waiting(rt, dialect, lock, collector)
+        }
+    }
+
+    /// The gate goes down, and what is placed is dropped.
+    fn withhold<N: Telling>(
+        &mut self,
+        rt: &impl Wait,
+        lock: &ReleaseLock<L, N>,
+        collector: &Collector<M>,
+    )
+        ensures { Drains self.old self.new }
+    {
+        self.note_up();
+        self.put_down(rt, lock);
+        self.drain(rt, lock, collector);
+    }
+
+    /// The session is up, whether orders are taken or not.
+    fn note_up(&mut self)
+        ensures { self.new ≡ self.old }
+    {
+        self.io.came_up();
+        self.io.tell_up();
+    }
+
+    /// The gate is put up, and the legs that wait are sent, so many at most. Before it asks for the first one the
+    /// worker tells that it may be sending.
     fn send_waiting<D: Dialect, N: Telling>(
         &mut self,
         rt: &impl Wait,
@@ -266,13 +312,30 @@ impl<K: Link, C: Clock + Drop, L: Run, M: Accounts, J: Telling> WorkerState<K, C
         lock: &ReleaseLock<L, N>,
         collector: &Collector<M>,
     )
-        ensures { Does (D.wording dialect.now) self.old self.new }
+        ensures { Heeds (D.wording dialect.now) false self.old self.new }
     {
         if !self.put_up(rt, lock) {
             return;
         }
+        let venue = self.takings.venue();
+        lock.tell_sending(venue, true);
+        self.send_some(rt, dialect, lock, collector);
+        lock.tell_sending(venue, false);
+    }
+
+    /// The legs that wait are sent, so many at most, until the venue is found held or its gate shut.
+    fn send_some<D: Dialect, N: Telling>(
+        &mut self,
+        rt: &impl Wait,
+        dialect: &D,
+        lock: &ReleaseLock<L, N>,
+        collector: &Collector<M>,
+    )
+        ensures { Heeds (D.wording dialect.now) false self.old self.new }
+    {
+        let venue = self.takings.venue();
         for _ in 0..LEGS_A_TURN {
-            if lock.is_shut(self.takings.venue()) || !self.io.is_up() {
+            if lock.is_held(venue) || lock.is_shut(venue) || !self.io.is_up() {
                 return;
             }
             if !self.send_next(rt, dialect, lock, collector) {
@@ -306,7 +369,7 @@ impl<K: Link, C: Clock + Drop, L: Run, M: Accounts, J: Telling> WorkerState<K, C
         collector: &Collector<M>,
     ) -> bool
         requires { self.old.io.session.phase ≡ phase.Up }
-        ensures { Does (D.wording dialect.now) self.old self.new }
+        ensures { Heeds (D.wording dialect.now) false self.old self.new }
     {
         match next_leg(rt, lock, &mut self.takings) {
             Ok(next) => self.send(rt, dialect, collector, next),
@@ -350,7 +413,7 @@ impl<K: Link, C: Clock + Drop, L: Run, M: Accounts, J: Telling> WorkerState<K, C
         lock: &ReleaseLock<L, N>,
         collector: &Collector<M>,
     )
-        ensures { Does (D.wording dialect.now) self.old self.new }
+        ensures { (held : Bool) → Heeds (D.wording dialect.now) held self.old self.new }
     {
         if !self.io.is_connected() || !lock.is_shut(self.takings.venue()) {
             return;
@@ -371,7 +434,7 @@ impl<K: Link, C: Clock + Drop, L: Run, M: Accounts, J: Telling> WorkerState<K, C
         collector: &Collector<M>,
         buf: &mut [u8],
     )
-        ensures { Does (D.wording dialect.now) self.old self.new }
+        ensures { (held : Bool) → Heeds (D.wording dialect.now) held self.old self.new }
     {
         if !self.io.is_connected() {
             return;
@@ -387,7 +450,7 @@ impl<K: Link, C: Clock + Drop, L: Run, M: Accounts, J: Telling> WorkerState<K, C
 
     /// After so long without a write the session writes a Heartbeat.
     fn write_if_quiet<D: Dialect>(&mut self, rt: &impl Wait, dialect: &D, collector: &Collector<M>)
-        ensures { Does (D.wording dialect.now) self.old self.new }
+        ensures { (held : Bool) → Heeds (D.wording dialect.now) held self.old self.new }
     {
         match self.io.on_quiet(rt, dialect) {
             Some(step) => self.carry_out(rt, collector, step, &ReportWords::none()),
@@ -397,7 +460,7 @@ impl<K: Link, C: Clock + Drop, L: Run, M: Accounts, J: Telling> WorkerState<K, C
 
     /// After so long without a message the session writes a fence, and the second time the connection ends.
     fn ask_if_silent<D: Dialect>(&mut self, rt: &impl Wait, dialect: &D, collector: &Collector<M>)
-        ensures { Does (D.wording dialect.now) self.old self.new }
+        ensures { (held : Bool) → Heeds (D.wording dialect.now) held self.old self.new }
     {
         match self.io.on_silence(rt, dialect) {
             Some(step) => self.carry_out(rt, collector, step, &ReportWords::none()),
@@ -536,7 +599,7 @@ impl<K: Link, C: Clock + Drop, L: Run, M: Accounts, J: Telling> WorkerState<K, C
         self.withdraw(rt, collector, leg.leg.id);
     }
 
-    /// Asks the book to withdraw legs, and counts those that it does.
+    /// Asks the book to withdraw legs, and counts what it answers.
     fn withdraw_all(&mut self, rt: &impl Wait, collector: &Collector<M>, ids: LegIds)
         ensures counted { WithdrawsAll ids self.old self.new }
         ensures io { StandsStill [] self.old.io self.new.io }
@@ -549,7 +612,8 @@ impl<K: Link, C: Clock + Drop, L: Run, M: Accounts, J: Telling> WorkerState<K, C
         }
     }
 
-    /// Asks the book to withdraw a leg, once what says so is kept, and counts it if it does.
+    /// Asks the book to withdraw a leg, once what says so is kept, and counts what it answers. A refusal is told at
+    /// once.
     fn withdraw(&mut self, rt: &impl Wait, collector: &Collector<M>, id: LegId)
         ensures counted { Withdraws id self.old self.new }
         ensures io { StandsStill [] self.old.io self.new.io }
@@ -558,8 +622,11 @@ impl<K: Link, C: Clock + Drop, L: Run, M: Accounts, J: Telling> WorkerState<K, C
     {
         self.io.keep(rt);
         match collector.withdraw(rt, id, &mut self.seat, self.io.journal()) {
-            Ok(()) => self.withdrawn = self.withdrawn.saturating_add(1),
-            Err(_) => {}
+            Ok(()) => self.withdrawn.count_done(),
+            Err(_) => {
+                self.withdrawn.count_refused();
+                self.io.tell_refused(self.withdrawn.refused);
+            }
         }
     }
 }

@@ -73,6 +73,10 @@ impl<'a, T: Clock> Link for Meeting<'a, T> {
         self.script.heard(left)
     }
 
+    fn came_up(&mut self) {
+        self.script.came_up()
+    }
+
     fn write(&mut self, bytes: &[u8]) -> Result<usize, LinkFault> {
         self.met = self.met || self.meets();
         if self.met {

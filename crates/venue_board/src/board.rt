@@ -4,7 +4,8 @@ use crate::progress::Progress;
 use std::sync::atomic::{AtomicU64, Ordering};
 
 /// What a venue's worker tells others, who may read it at any time. How far the session is comes at once; how many legs
-/// were taken, settled, withdrawn and are in doubt, and when the exchange was heard, ten times a second at most.
+/// were taken, settled, withdrawn and are in doubt, and when the exchange was heard, ten times a second at most. That
+/// the book refused to withdraw a leg comes at once.
 #[derive(Drop)]
 pub struct VenueBoard {
     progress: AtomicU64,
@@ -13,6 +14,7 @@ pub struct VenueBoard {
     doubts: AtomicU64,
     settled: AtomicU64,
     withdrawn: AtomicU64,
+    refused: AtomicU64,
     heard: AtomicU64,
 }
 
@@ -26,6 +28,7 @@ impl VenueBoard {
             doubts: AtomicU64::new(0),
             settled: AtomicU64::new(0),
             withdrawn: AtomicU64::new(0),
+            refused: AtomicU64::new(0),
             heard: AtomicU64::new(0),
         }
     }
@@ -47,6 +50,11 @@ impl VenueBoard {
         self.doubts.store(doubts, Ordering::SeqCst);
         self.settled.store(settled, Ordering::SeqCst);
         self.withdrawn.store(withdrawn, Ordering::SeqCst);
+    }
+
+    /// The book refused to withdraw so many legs.
+    pub fn tell_refused(&self, refused: u64) {
+        self.refused.store(refused, Ordering::SeqCst);
     }
 
     /// The last message was received when the worker's clock told so many milliseconds.
@@ -82,6 +90,12 @@ impl VenueBoard {
     /// How many of the legs taken were withdrawn in the book: the exchange has none of them.
     pub fn withdrawn(&self) -> u64 {
         self.withdrawn.load(Ordering::SeqCst)
+    }
+
+    /// How many withdrawals the book refused: reports had moved shares of these legs, and the exchange showed later
+    /// that it hadn't taken the orders. It contradicts itself, and a person has to ask it.
+    pub fn refused(&self) -> u64 {
+        self.refused.load(Ordering::SeqCst)
     }
 
     /// What the worker's clock told, in milliseconds, when the last message was received or the connection was made; 0

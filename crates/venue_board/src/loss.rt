@@ -17,4 +17,6 @@ pub enum Loss {
     OutOfMemory,
     /// No number was left for a Logon.
     NumbersSpent,
+    /// The exchange logged out first, and the venue is one that is dialled again then.
+    Parted,
 }

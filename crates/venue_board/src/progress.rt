@@ -11,7 +11,7 @@ use session_core::Ended;
 pub enum Progress {
     /// It is dialled for the first time: it was neither up yet nor has a dial failed.
     Dialled,
-    /// It is up, and the venue's gate with it.
+    /// It is up, and the venue's gate with it, unless the venue is held.
     Up,
     /// A dial failed, and another one follows.
     Unreachable,
@@ -47,13 +47,14 @@ impl Progress {
             Progress::Down(Loss::Ended(Ended::LogoutDone)) => 19,
             Progress::Down(Loss::Ended(Ended::BadNextExpected)) => 20,
             Progress::Down(Loss::Ended(Ended::PeerForgot)) => 21,
+            Progress::Down(Loss::Parted) => 22,
         }
     }
 
-    /// What a code stands for, if it stands for something: the codes go from 0 to 21.
+    /// What a code stands for, if it stands for something: the codes go from 0 to 22.
     pub(crate) fn of_code(code: u64) -> Option<Progress>
         ensures known { IfSome result (λ progress. slice_get progresses code ≡ Some progress) }
-        ensures unknown { result ≡ None → 21 < code }
+        ensures unknown { result ≡ None → 22 < code }
     {
         match code {
             0 => Some(Progress::Dialled),
@@ -78,6 +79,7 @@ impl Progress {
             19 => Some(Progress::Down(Loss::Ended(Ended::LogoutDone))),
             20 => Some(Progress::Down(Loss::Ended(Ended::BadNextExpected))),
             21 => Some(Progress::Down(Loss::Ended(Ended::PeerForgot))),
+            22 => Some(Progress::Down(Loss::Parted)),
             _ => None,
         }
     }

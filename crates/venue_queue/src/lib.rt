@@ -10,7 +10,7 @@
 //!   with both counts (`meet`).
 //! - That a `pop` of a ring which is never empty gives a leg is only tested.
 //!
-//! See `docs/queue.md`.
+//! See `docs/locks.md`.
 #![tactic(auto)]
 
 mod drain;

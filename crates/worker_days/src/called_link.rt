@@ -128,6 +128,10 @@ impl<'a, 'c, R: Wait, K: Link, L: Run, M: Accounts> Link for CalledLink<'a, 'c, 
         self.link.heard(left)
     }
 
+    fn came_up(&mut self) {
+        self.link.came_up()
+    }
+
     fn write(&mut self, bytes: &[u8]) -> Result<usize, LinkFault> {
         self.count();
         self.call_beside(Beside::Writes);

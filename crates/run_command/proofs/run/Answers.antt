@@ -19,4 +19,4 @@ pub returns : goal.returns
 returns g c =
     ends_as (g.W.Write.contents c.args.out.now) (g.W.Write.contents c.run_config.new.out)
     c.in_ok-config.ensures.says.0 c.in_ok-config.config c.run_config.result c.in_ok-config.ensures.says.1
-    c.run_config.ensures.ok c.run_config.ensures.err
+    c.run_config.ensures.ok c.run_config.ensures.err c.run_config.ensures.left

@@ -1,6 +1,6 @@
 use Rattle.std.proofs.Common.{rules, ◌≡◌, false, None, ◌∙◌, arith}
 use Rattle.std.proofs.lemmas.List.{nil_from_length}
-use Rattle.run_command.proofs.Ends.{prints_day}
+use Rattle.run_command.proofs.Ends.{prints_day, prints_whole}
 use Rattle.run_command.proofs.run_config.Goals as goal
 use Rattle.run_command.proofs.run_config.Goals.{then-day, else-day}
 
@@ -17,6 +17,18 @@ returns-clause-ok g c =
     let none : c.in_ok-day.day.doubts.len ≡ 0 =
     elim c.if-day.branch [ then-day w ↦ search rules | else-day w ↦ search rules ] in
     let settled = nil_from_length c.in_ok-day.day.doubts.items (omega (arith, held, none)) in
-    prints_day c.args.config.now c.args.options.form c.in_ok-day.day _ _ _ c.in_ok-day.ensures.day
+    prints_whole c.args.config.now c.args.options.form c.in_ok-day.day _ _ _ c.in_ok-day.ensures.day
     (λ none. c.in_ok-day.ensures.new (c.requires.journal none)) taken closed booked settled
     (c.deref.ensures.value ∙ c.in_ok-end_text.ensures) c.in_ok-print.ensures.ok
+
+pub returns-in-None-clause-left : goal.returns-in-None-clause-left
+returns-in-None-clause-left g c =
+    prints_day c.args.config.now c.args.options.form c.in_ok-day.day _ _ _ c.in_ok-day.ensures.day
+    (λ none. c.in_ok-day.ensures.new (c.requires.journal none)) (c.deref.ensures.value ∙ c.in_ok-end_text.ensures)
+    c.in_ok-print.ensures.ok
+
+pub returns-in-None-2-clause-left : goal.returns-in-None-2-clause-left
+returns-in-None-2-clause-left g c =
+    prints_day c.args.config.now c.args.options.form c.in_ok-day.day _ _ _ c.in_ok-day.ensures.day
+    (λ none. c.in_ok-day.ensures.new (c.requires.journal none)) (c.deref.ensures.value ∙ c.in_ok-end_text.ensures)
+    c.in_ok-print.ensures.ok

@@ -6,6 +6,6 @@ use Rattle.desk_json.proofs.venues_written.write_leg_counts.Goals as goal
 pub returns : goal.returns
 unfolding leg_counts_json
 returns c =
-    on_ok_weaker c.write-2.result
-    (λ said. rw said (rw (c.in_ok-write.ensures.bytes, c.accepted-accepted.ensures) (simp append_assoc)))
-    c.write-2.ensures.bytes
+    on_ok_weaker c.write-3.result
+    (λ said. rw said (rw (c.in_ok-write-2.ensures.bytes, c.in_ok-write.ensures.bytes, c.accepted-accepted.ensures) (simp append_assoc)))
+    c.write-3.ensures.bytes

@@ -21,8 +21,8 @@ pub returns-in_err-add_taker-clause-only : goal.returns-in_err-add_taker-clause-
 returns-in_err-add_taker-clause-only g c =
     same_refusal c.from_residual-in_err-add_taker.result _ c.from_residual-in_err-add_taker.ensures.1 c.in_err-add_taker.ensures
 
-pub returns-in_err-of_locked-clause-only : goal.returns-in_err-of_locked-clause-only
-returns-in_err-of_locked-clause-only g c = same_refusal c.from_residual-in_err-of_locked.result _ c.from_residual-in_err-of_locked.ensures.1 tt
+pub returns-in_err-lock_again-clause-only : goal.returns-in_err-lock_again-clause-only
+returns-in_err-lock_again-clause-only g c = same_refusal c.from_residual-in_err-lock_again.result _ c.from_residual-in_err-lock_again.ensures.1 tt
 
 pub returns-clause-page : goal.returns-clause-page
 returns-clause-page g c =

@@ -1,9 +1,9 @@
-use Rattle.std.proofs.Common.{◌≡◌, [], length, map, take, All}
+use Rattle.std.proofs.Common.{◌≡◌, ◌+◌, ◌++◌, [], length, map, All}
 use Rattle.desk_venues.proofs.workers.new_links.Given as goal
 
-abbrev pub invariant-loop-addr : goal.invariant-loop-addr
-invariant-loop-addr g l = record {
-  addrs : map (λ k. k.link.addr) l.links.items ≡ take l.addr-index l.addrs;
+abbrev pub invariant-loop-view : goal.invariant-loop-view
+invariant-loop-view g l = record {
+  to : map (λ k. k.link.goal) l.links.items ++ l.goals.items ≡ l.initial.goals.items;
   new : All (λ k. k.link.told.traffic ≡ []) l.links.items;
-  as_many : length l.links.items ≡ l.addr-index;
+  left : length l.goals.items + l.view-index ≡ length l.views;
 }

@@ -37,7 +37,7 @@ pub new_worker-requires-clause-at : goal.new_worker-requires-clause-at
 new_worker-requires-clause-at g c =
     let left = drop_more c.args.venues.now c.loop-venue.venue-index c.venue-item.result c.loop-venue-test.true
     ∙ ap (λ v. v ∷ drop (c.loop-venue.venue-index + 1) c.args.venues.now) (sym c.venue-item.is) in
-    (at_first (λ k. k.link.addr) _ _ c.venue-item.result c.loop-venue.links.items _ c.in-Some-pop_front-2.link left
+    (at_first (λ k. k.link.goal) _ _ c.venue-item.result c.loop-venue.links.items _ c.in-Some-pop_front-2.link left
     c.in-Some-pop_front-2.ensures.items c.loop-venue.invariant.their_links).0
 
 pub loop-venue-preserved : goal.loop-venue-preserved
@@ -69,7 +69,7 @@ loop-venue-preserved g c =
           (ap (map told) first_journal) c.in_ok-new_worker.ensures so_far.starts_are;
       new_links = All-rest (λ k. k.link.told.traffic ≡ []) link links c.loop-venue.links.items first_link
           so_far.new_links;
-      their_links = (at_first (λ k. k.link.addr) _ _ c.venue-item.result c.loop-venue.links.items links link left
+      their_links = (at_first (λ k. k.link.goal) _ _ c.venue-item.result c.loop-venue.links.items links link left
           first_link so_far.their_links).1;
       links_left = omega (arith, links_were, links_left);
       made = search rules;

@@ -9,7 +9,7 @@ invariant-loop-venue g l = record {
       ++ workers_from (drop l.venue-index l.venues) l.starts.items (map g.J.Telling.told l.journals.items)
       ≡ workers_from l.venues l.initial.starts.items (map g.J.Telling.told l.initial.journals.items);
   new_links : All (λ k. k.link.told.traffic ≡ []) l.links.items;
-  their_links : AreAt (drop l.venue-index l.venues) (map (λ k. k.link.addr) l.links.items);
+  their_links : AreAt (drop l.venue-index l.venues) (map (λ k. k.link.goal) l.links.items);
   links_left : length l.links.items + l.venue-index ≡ length l.venues;
   made : length l.workers.items ≡ l.venue-index;
   starts_left : length l.starts.items + l.venue-index ≡ length l.venues;

@@ -1,6 +1,6 @@
-use Rattle.std.proofs.Common.{rules, ◌≡◌, ℕ, ◌+◌, List, ◌∷◌, Err, sym, subst, arith}
+use Rattle.std.proofs.Common.{rules, ◌≡◌, ℕ, ◌+◌, ◌∷◌, Err, sym, subst, arith}
 use Rattle.std.specs.Prelude.{MatchResult, Result}
-use Rattle.journal_folder.specs.Found.{AreFound, FoundParts, IsRefused, IsTaken, MayRefuse}
+use Rattle.journal_folder.specs.Found.{FoundParts, IsFoundOf, IsRefused, IsTaken, MayRefuse}
 use Rattle.journal_folder.specs.declared.fault.FolderFault.{FolderFault}
 use Rattle.journal_folder.proofs.Founds.{breaks}
 use Rattle.journal_folder.proofs.found.read_journal.Goals as goal
@@ -28,7 +28,7 @@ returns-in_err-take_file g c =
     let fault = c.in_err-take_file.field-0.0 in
     let same : Err fault ≡ c.from_residual-in_err-take_file.result = search rules in
     subst
-    (λ (r : Result FoundParts FolderFault). MatchResult r (λ f. (files : List (List ℕ)) × AreFound files f) IsRefused)
+    (λ (r : Result FoundParts FolderFault). MatchResult r (IsFoundOf c.args.files) IsRefused)
     same
     (breaks so_far.0 found bytes fault so_far.1
     (subst (λ (n : ℕ). MayRefuse found (n + 1) bytes fault) (sym so_far.2) c.in_err-take_file.ensures))

@@ -1,10 +1,23 @@
-use Rattle.std.proofs.Common.{rules, ◌≡◌, length, map, ◌∙◌, sym, ap}
+use Rattle.std.proofs.Common.{rules, ◌≡◌, length, map, Ok, Err, ◌∙◌, sym, ap, subst}
+use Rattle.std.specs.Prelude.{Result, IfErr, IsErrAnd}
+use Rattle.desk_venues.specs.declared.day_fault.DayFault.{DayFault}
+use Rattle.desk_venues.specs.Faults.{IsNoMismatch}
 use Rattle.session_worker.specs.Places.{place, new_places}
 use Rattle.desk_run.proofs.Begun.{as_many_new, begun_new_day, begun_places}
 use Rattle.desk_run.proofs.NewStarts.{new_day_workers}
 use Rattle.live_load.proofs.CallersLeft.{are_called}
 use Rattle.live_load.proofs.LiveDays.{live_day}
 use Rattle.live_load.proofs.running.named_day.Goals as goal
+
+-- a refusal that is handed on
+same_refusal : {A : Type 0} (result : Result A DayFault) (fault : DayFault) → IsErrAnd result (λ given. given ≡ fault)
+    → IsNoMismatch fault → IfErr result IsNoMismatch
+same_refusal (Ok day) fault e none = absurd e
+same_refusal (Err given) fault e none = subst IsNoMismatch (sym e) none
+
+pub returns-in_err-ended-clause-only : goal.returns-in_err-ended-clause-only
+returns-in_err-ended-clause-only g c =
+    same_refusal c.from_residual-in_err-ended.result _ c.from_residual-in_err-ended.ensures.1 c.in_err-ended.ensures.only
 
 pub open_day-requires-clause-starts : goal.open_day-requires-clause-starts
 open_day-requires-clause-starts g c =

@@ -1,6 +1,6 @@
-use Rattle.release_lock.proofs.Turning.{turns_down}
+use Rattle.release_lock.proofs.Holding.{lowers_down}
 use Rattle.lock_days.proofs.calls.gate_down.Goals as goal
 
 pub returns-then-from-venues : goal.returns-then-from-venues
 returns-then-from-venues c =
-    turns_down c.args.desk.now c.gate_down.new.self c.args.at c.gate_down.ensures.desk c.gate_down.ensures.history
+    lowers_down c.args.desk.now c.gate_down.new.self c.args.at c.gate_down.ensures.desk c.gate_down.ensures.history

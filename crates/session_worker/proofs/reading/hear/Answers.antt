@@ -6,6 +6,7 @@ use Rattle.dialect.specs.Message.{decoded}
 use Rattle.session_core.specs.declared.session_call.SessionCall.TheVariants as call
 use Rattle.session_core.specs.Calling.{answers}
 use Rattle.session_core.specs.Receiving.{receive}
+use Rattle.session_worker.specs.Linking.{is_logged_on, is_logout}
 use Rattle.session_worker.proofs.Calling.{gave_step}
 use Rattle.session_worker.proofs.HeardTold.{heard_told}
 use Rattle.session_worker.proofs.reading.hear.Goals as goal
@@ -52,3 +53,16 @@ returns-in-Err-read_envelope-clause-told g c =
     heard_told c.args.reader.now (fields_in c.in-Ok-Some.frame) c.args.stamp.now _ _
     (sym c.in-Ok-Some.ensures.fields ∙ ap (option_map fields_in) c.in-Ok-Some.field-0-is)
     c.tell_heard-in-Err-read_envelope.ensures.told
+
+pub returns-in-Ok-clause-heard : goal.returns-in-Ok-clause-heard
+returns-in-Ok-clause-heard g c = (
+  refl,
+  record {
+    fields = fields_in c.in-Ok-Some.frame;
+    envelope = c.in-Ok.envelope;
+    next = sym c.in-Ok-Some.ensures.fields ∙ ap (option_map fields_in) c.in-Ok-Some.field-0-is;
+    says = c.in-Ok.ensures.read;
+    logged_on = ap is_logged_on (sym c.phase.ensures) ∙ sym c.if-is_logged_on.ensures;
+    logout = ap is_logout (sym c.body.ensures.value) ∙ sym c.if-is_logout.ensures;
+  },
+)

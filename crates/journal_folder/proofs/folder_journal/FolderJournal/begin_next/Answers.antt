@@ -1,4 +1,4 @@
-use Rattle.std.proofs.Common.{◌≡◌, ◌-◌, ◌++◌, ◌∷◌, List, ℕ, map, sym, ap, ◌∙◌, arith}
+use Rattle.std.proofs.Common.{◌≡◌, ◌++◌, ◌∷◌, List, ℕ, map, refl, sym, ap, ◌∙◌, arith}
 use Rattle.std.specs.Prelude.{Vec}
 use Rattle.std.specs.declared.alloc.Global.{Global}
 use Rattle.journal_folder.specs.Head.{head_text}
@@ -25,6 +25,7 @@ invariant_of-self-2 g c =
       counted = old.counted;
       begins = omega (arith, begins, started);
       started = omega arith;
+      next_number = record { past = λ less. absurd (omega (arith, less)); here = λ same. refl };
       file_has = c.tell_all.ensures.kept ∙ c.in_ok-writer.ensures.head
           ∙ ap (λ (l : List (List ℕ)). head_text old.next_file.number old.kept old.place.words.now ∷ l)
           (sym (none_behind old.before old.kept old.told.lines.kept old.counted));

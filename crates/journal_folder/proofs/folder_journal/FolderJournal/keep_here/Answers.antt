@@ -1,9 +1,9 @@
-use Rattle.std.proofs.Common.{◌≡◌, ◌+◌, ◌-◌, ◌∷◌, List, ℕ, length, map, drop, sym, ap, ◌∙◌, arith}
+use Rattle.std.proofs.Common.{◌≡◌, ◌+◌, ◌-◌, ◌∷◌, List, ℕ, length, map, drop, refl, sym, ap, ◌∙◌, arith}
 use Rattle.std.specs.Prelude.{Vec}
 use Rattle.std.specs.declared.alloc.Global.{Global}
 use Rattle.journal_tape.specs.Told.{LinesTold, all_kept}
 use Rattle.journal_folder.specs.Head.{head_text}
-use Rattle.journal_folder.proofs.Files.{all_waiting, both_none, counted_more, kept_behind}
+use Rattle.journal_folder.proofs.Files.{all_waiting, both_none, counted_more, gone_past, kept_behind}
 use Rattle.journal_folder.proofs.folder_journal.FolderJournal.keep_here.Goals as goal
 
 pub invariant_of-self : goal.invariant_of-self
@@ -31,6 +31,8 @@ invariant_of-self g c =
           ∙ ap (λ (t : LinesTold). old.before + length t.kept) (sym is);
       begins = old.begins;
       started = omega (arith, sum_is, started);
+      next_number = gone_past old.next_file.number c.go_past.new.self.number old.file old.start old.kept c.in-Some.kept _
+          old.next_number old.started (omega (arith, sum_is)) refl c.go_past.ensures.past c.go_past.ensures.here;
       file_has = ap (λ (t : LinesTold). t.kept) kept_is
           ∙ kept_behind old.before old.start old.kept head told old.writer.told.lines old.begins old.started old.counted
           old.told_is old.file_has

@@ -1,6 +1,8 @@
 use Rattle.std.proofs.Common.{rules, sym, subst}
 use Rattle.sweep_release.specs.History.{KeptDesk}
-use Rattle.release_lock.specs.Locked.{Replays, OnlyTurns}
+use Rattle.release_lock.specs.Held.{OnlyLowers}
+use Rattle.release_lock.specs.Locked.{Replays}
+use Rattle.release_lock.proofs.Holding.{lowers_turn}
 use Rattle.release_lock.proofs.Turning.{turned_locked, turned_side, turned_book}
 use Rattle.release_lock.proofs.NotedSweeps.{turned_noted}
 use Rattle.release_lock.proofs.DayDollars.{turned_dollars}
@@ -8,8 +10,9 @@ use Rattle.release_lock.proofs.locked_desk.LockedDesk.lend.Goals as goal
 
 pub invariant_of-self : goal.invariant_of-self
 invariant_of-self g c =
-    let turns = c.requires.turns c.args.self.now c.f.result c.f.new.arg2 (search rules) in
-    let only = subst (λ (d : KeptDesk). OnlyTurns d c.f.new.arg2) (sym c.self.view_is) turns in (
+    let turns = c.requires.lowers c.args.self.now c.f.result c.f.new.arg2 (search rules) in
+    let only = lowers_turn c.self.inside.desk c.f.new.arg2
+    (subst (λ (d : KeptDesk). OnlyLowers d c.f.new.arg2) (sym c.self.view_is) turns) in (
       turned_locked g.L.Run.queues c.self.inside.desk c.f.new.arg2 c.self.inside.total.total c.self.inside.feeds.items
           c.self.invariant.0 only,
       turned_side c.self.inside.desk c.f.new.arg2 only c.self.invariant.1,
@@ -20,8 +23,9 @@ invariant_of-self g c =
 
 pub returns-clause-replays : goal.returns-clause-replays
 returns-clause-replays g c =
-    let turns = c.requires.turns c.args.self.now c.f.result c.f.new.arg2 (search rules) in
+    let turns = c.requires.lowers c.args.self.now c.f.result c.f.new.arg2 (search rules) in
     let now = turned_locked g.L.Run.queues c.self.inside.desk c.f.new.arg2 c.self.inside.total.total
     c.self.inside.feeds.items c.self.invariant.0
-    (subst (λ (d : KeptDesk). OnlyTurns d c.f.new.arg2) (sym c.self.view_is) turns) in
+    (lowers_turn c.self.inside.desk c.f.new.arg2
+    (subst (λ (d : KeptDesk). OnlyLowers d c.f.new.arg2) (sym c.self.view_is) turns)) in
     (subst Replays c.self.view_is c.self.invariant.0.replays, now.replays)

@@ -60,11 +60,23 @@ returns-in-OutOfMemory-clause-asks g c =
     let w : Wording = g.D.Dialect.wording c.args.dialect.now in
     let old : SessionIoParts = io_of c.self.inside.session c.self.inside.door.wire c.self.inside.reader
     (g.J.Telling.told c.self.inside.journal) in
+    let now : SessionIoParts = c.break_off-in-OutOfMemory.new.self in
+    subst (λ (x : SessionIoParts). Moves w x now) c.self.view_is
+    (moves_broken w old now (c.break_off-in-OutOfMemory.ensures.session ∙ ap broken c.in-OutOfMemory.ensures.heard)
+    (stays_on old.wire c.hear.new.door.wire now.wire c.in-OutOfMemory.ensures.wire c.break_off-in-OutOfMemory.ensures.wire)
+    (tells_from old.told (g.J.Telling.told c.hear.new.journal) now.told _ c.in-OutOfMemory.ensures.told
+    c.break_off-in-OutOfMemory.ensures.told))
+
+pub returns-in-Parted-clause-asks : goal.returns-in-Parted-clause-asks
+returns-in-Parted-clause-asks g c =
+    let w : Wording = g.D.Dialect.wording c.args.dialect.now in
+    let old : SessionIoParts = io_of c.self.inside.session c.self.inside.door.wire c.self.inside.reader
+    (g.J.Telling.told c.self.inside.journal) in
     let now : SessionIoParts = c.break_off.new.self in
     subst (λ (x : SessionIoParts). Moves w x now) c.self.view_is
-    (moves_broken w old now (c.break_off.ensures.session ∙ ap broken c.in-OutOfMemory.ensures.heard)
-    (stays_on old.wire c.hear.new.door.wire now.wire c.in-OutOfMemory.ensures.wire c.break_off.ensures.wire)
-    (tells_from old.told (g.J.Telling.told c.hear.new.journal) now.told _ c.in-OutOfMemory.ensures.told
+    (moves_broken w old now (c.break_off.ensures.session ∙ ap broken c.in-Parted.ensures.heard.0)
+    (stays_on old.wire c.hear.new.door.wire now.wire c.in-Parted.ensures.wire c.break_off.ensures.wire)
+    (tells_from old.told (g.J.Telling.told c.hear.new.journal) now.told _ c.in-Parted.ensures.told
     c.break_off.ensures.told))
 
 pub returns-in-Step-clause-said : goal.returns-in-Step-clause-said

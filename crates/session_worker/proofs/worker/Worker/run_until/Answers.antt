@@ -8,10 +8,9 @@ use Rattle.session_worker.specs.Speaking.{Speak}
 use Rattle.session_worker.specs.Keeping.{TellsEvents}
 use Rattle.session_worker.proofs.Told.{tells_on}
 use Rattle.session_worker.proofs.Speech.{stays_on}
-use Rattle.session_worker.specs.Events.{WorkerParts, calls_of, Goes, IsIdle}
+use Rattle.session_worker.specs.Events.{WorkerParts, calls_of, Goes}
 use Rattle.session_worker.specs.Ends.{WorkerLeft, Runs, last_calls}
 use Rattle.session_worker.specs.Linking.{WorkerStateParts, worker_in}
-use Rattle.session_worker.proofs.Calling.{idle_in}
 use Rattle.session_worker.proofs.Doing.{dropping, goes_on, goes_drains, speak_events, speak_last}
 use Rattle.session_worker.proofs.Ran.{runs_as}
 use Rattle.session_worker.proofs.worker.Worker.run_until.Goals as goal
@@ -39,9 +38,8 @@ returns g c =
       told = c.into_parts-session.ensures.told k;
     }) ∙ ap worker_in c.state-2.view_is in
     let end : WorkerLeft = record { parts = left; reason = c.turns-reason.result } in
-    let idle : IsIdle d.io.session = idle_in d.io.session Closed c.finish.ensures.over (λ x. cc) in
     let last = goes_on read (worker_in b) (worker_in d) (worker_in e) (last_calls b.io.session.phase) (dropping c.drain.ensures.legs)
-    (c.finish.ensures.goes read) (goes_drains read d e c.drain.ensures idle) in
+    (c.finish.ensures.goes read) (goes_drains read d e c.drain.ensures) in
     let does = c.turns-reason.ensures.does in
     let quiet : Tells b.io.wire left.wire Stays =
     subst (λ (x : WorkerParts). Tells b.io.wire x.wire Stays) (sym same)

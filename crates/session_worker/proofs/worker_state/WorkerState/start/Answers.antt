@@ -5,7 +5,7 @@ use Rattle.session_core.specs.Session.{SessionParts}
 use Rattle.session_worker.specs.Events.{IsIdle}
 use Rattle.session_worker.specs.Linking.{WorkerStateParts}
 use Rattle.session_worker.proofs.Calling.{idle_in}
-use Rattle.session_worker.proofs.Doing.{does_on, does_stay, does_drains}
+use Rattle.session_worker.proofs.Doing.{heeds_on, heeds_stay, heeds_drains}
 use Rattle.session_worker.proofs.worker_state.WorkerState.start.Goals as goal
 
 pub connect-requires : goal.connect-requires
@@ -20,7 +20,7 @@ returns-in-Everything g c =
     let b : WorkerStateParts = c.drain.new.self in
     let down = ap (λ (x : WorkerStateParts). x.io.session.phase) c.put_down.ensures ∙ c.requires in
     let idle : IsIdle p.io.session = idle_in p.io.session Down down (λ e. cc) in
-    does_on w _ b _ (does_on w _ p b (does_stay w _ p c.put_down.ensures) (does_drains w p b c.drain.ensures idle)) c.connect.ensures
+    λ held. heeds_on w held _ b _ (heeds_on w held _ p b (heeds_stay w held _ p c.put_down.ensures) (heeds_drains w held p b c.drain.ensures idle)) (c.connect.ensures held)
 
 pub returns-in-SomeLeft : goal.returns-in-SomeLeft
 returns-in-SomeLeft g c =
@@ -29,7 +29,7 @@ returns-in-SomeLeft g c =
     let b : WorkerStateParts = c.drain.new.self in
     let down = ap (λ (x : WorkerStateParts). x.io.session.phase) c.put_down.ensures ∙ c.requires in
     let idle : IsIdle p.io.session = idle_in p.io.session Down down (λ e. cc) in
-    does_on w _ p b (does_stay w _ p c.put_down.ensures) (does_drains w p b c.drain.ensures idle)
+    λ held. heeds_on w held _ p b (heeds_stay w held _ p c.put_down.ensures) (heeds_drains w held p b c.drain.ensures idle)
 
 pub returns-in-NoRoom : goal.returns-in-NoRoom
 returns-in-NoRoom g c =
@@ -38,4 +38,4 @@ returns-in-NoRoom g c =
     let b : WorkerStateParts = c.drain.new.self in
     let down = ap (λ (x : WorkerStateParts). x.io.session.phase) c.put_down.ensures ∙ c.requires in
     let idle : IsIdle p.io.session = idle_in p.io.session Down down (λ e. cc) in
-    does_on w _ p b (does_stay w _ p c.put_down.ensures) (does_drains w p b c.drain.ensures idle)
+    λ held. heeds_on w held _ p b (heeds_stay w held _ p c.put_down.ensures) (heeds_drains w held p b c.drain.ensures idle)

@@ -12,15 +12,15 @@ withdraw-requires g c =
 
 pub returns-in-Ok-clause-counted : goal.returns-in-Ok-clause-counted
 returns-in-Ok-clause-counted g c =
-    let now : WorkerStateParts = state_of c.keep.new.self c.self.inside.takings c.withdraw.new.seat c.saturating_add-self-inside.result in
+    let now : WorkerStateParts = state_of c.keep.new.self c.self.inside.takings c.withdraw.new.seat c.count_done.new.self in
     subst (λ (x : WorkerStateParts). Withdraws c.args.id x now) c.self.view_is
-    (c.in-Ok.ensures.asked, inl (c.in-Ok.ensures.gains, c.saturating_add-self-inside.ensures))
+    (c.in-Ok.ensures.asked, inl (c.in-Ok.ensures.gains, c.count_done.ensures))
 
 pub returns-in-Err-clause-counted : goal.returns-in-Err-clause-counted
 returns-in-Err-clause-counted g c =
-    let now : WorkerStateParts = state_of c.keep.new.self c.self.inside.takings c.withdraw.new.seat c.self.inside.withdrawn in
+    let now : WorkerStateParts = state_of c.keep.new.self c.self.inside.takings c.withdraw.new.seat c.count_refused.new.self in
     subst (λ (x : WorkerStateParts). Withdraws c.args.id x now) c.self.view_is
-    (c.in-Err.ensures.asked, inr (c.in-Err.ensures.gains.1, refl))
+    (c.in-Err.ensures.asked, inr (c.in-Err.ensures.gains.1, c.count_refused.ensures))
 
 pub returns-in-Ok-clause-io : goal.returns-in-Ok-clause-io
 returns-in-Ok-clause-io g c =
