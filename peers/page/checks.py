@@ -470,7 +470,7 @@ def greys_what_is_stale(trial):
         states = texts(page, ".venue .state")
         expect([state.startswith("was ") for state in states], [True] * len(states), "how they stood")
         expect(text(page, "#standing").startswith("No answer since"), True, "the top line")
-        expect(page.run("document.title.startsWith('No answer')"), True, "the tab's title")
+        page.until("document.title.startsWith('No answer')", "the tab's title says so")
         for scheme in ("light", "dark"):
             page.scheme(scheme)
             expect(page.run(CONTRAST)[1], [], f"too little contrast, {scheme}")
@@ -782,8 +782,8 @@ def shows_the_newest(page):
     page.until("document.querySelectorAll('tbody').length === 200", "the newest 200")
     expect(page.run("document.querySelector('tbody').id"), "sweep-2345", "the newest is first")
     page.gather()
-    asked = [url for url in page.asked if "/api/sweeps?" in url]
-    expect(len(asked) < 20, True, f"it asked {len(asked)} times")
+    asked = {url for url in page.asked if "/api/sweeps?" in url}
+    expect(len(asked) < 20, True, f"it asked for {len(asked)} parts of the day")
     press(page, "#older")
     page.until("document.querySelectorAll('tbody').length === 400", "200 older ones")
     expect(page.run("[...document.querySelectorAll('tbody')].at(-1).id"), "sweep-1946", "the oldest shown")
