@@ -5,7 +5,7 @@ pub const PAGE: &str = r###"<!doctype html>
 <html lang="en">
 <head>
 <meta charset="utf-8">
-<meta http-equiv="Content-Security-Policy" content="default-src 'none'; script-src 'sha256-9ok+kcDpsAy5J2+lRCkVJyZM4/jP50MMjZJZLQLCWoM='; style-src 'sha256-9j9grgHCb4OjElDby1LT2sLTDIJyZ+iGJWl82qv5EsE='; connect-src 'self'; base-uri 'none'; form-action 'none'; require-trusted-types-for 'script'; trusted-types 'none'">
+<meta http-equiv="Content-Security-Policy" content="default-src 'none'; script-src 'sha256-vyIOWTcjVT3W5gxdOBTyqF75wrBocB1EmDXXF93ckUA='; style-src 'sha256-9j9grgHCb4OjElDby1LT2sLTDIJyZ+iGJWl82qv5EsE='; connect-src 'self'; base-uri 'none'; form-action 'none'; require-trusted-types-for 'script'; trusted-types 'none'">
 <meta name="viewport" content="width=device-width, initial-scale=1">
 <meta name="referrer" content="no-referrer">
 <meta name="color-scheme" content="light dark">
@@ -597,7 +597,7 @@ function drawVenues() {
   const amiss = audit ? 0 : phases.filter(phase => !isExpected(phase)).length;
   const unbooked = expectedUnbooked();
   const words = [
-    !audit && lostAt && (isStale() ? "No answer" : "Events lost"),
+    !audit && (isStale() ? "No answer" : lostAt && "Events lost"),
     unbooked > 0 && `${digits(unbooked)} unbooked`,
     amiss > 0 && `${amiss} of ${phases.length} not up`,
     `Desk ${location.host}`,
@@ -1216,7 +1216,8 @@ function standingOf(since) {
 
 function drawStanding() {
   const since = lostAt && clock(lostAt);
-  document.body.classList.toggle("stale", isStale());
+  const wasStale = document.body.classList.contains("stale");
+  if (document.body.classList.toggle("stale", isStale()) !== wasStale) draw();
   const [colour, shape, words] = standingOf(since);
   const standing = at("standing");
   if (standing.dataset.state !== colour + shape) {
