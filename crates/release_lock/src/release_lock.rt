@@ -158,7 +158,12 @@ impl<L: Run, J: Telling> ReleaseLock<L, J> {
             (raise (without_room before) drain.now.venue (length drain.now.popped)) result (without_room after))
             ⊎ IsHeldBack drain.now.venue before result after) }
     {
-        self.locked.lock(rt).raise(drain)
+        let mut locked = self.locked.lock(rt);
+        let answer = locked.raise(drain);
+        if answer.is_ok() {
+            self.take_raise(drain.venue());
+        }
+        answer
     }
 
     /// Lends the desk to a closure that only puts gates down or shuts them. It may ask the desk anything; it may not
@@ -230,6 +235,15 @@ impl<L: Run, J: Telling> ReleaseLock<L, J> {
         }
     }
 
+    /// Whether a venue was held, now or before, and its gate wasn't put up since: so its worker also learns of a hold that
+    /// is over before it looks. It doesn't wait for the lock.
+    pub fn is_lowered(&self, venue: VenueId) -> bool {
+        match self.notes.get(usize::from(venue.number())) {
+            Some(note) => note.is_lowered(),
+            None => false,
+        }
+    }
+
     /// Whether a venue's worker may be sending a leg for which it saw no hold. Once this is false of a venue that is
     /// held, none is sent there any more.
     pub fn is_sending(&self, venue: VenueId) -> bool {
@@ -268,6 +282,13 @@ impl<L: Run, J: Telling> ReleaseLock<L, J> {
     fn take_notes(&self, desk: &Desk) {
         for note in &self.notes {
             note.take(desk);
+        }
+    }
+
+    /// Takes note that the gate of a venue was put up.
+    fn take_raise(&self, venue: VenueId) {
+        if let Some(note) = self.notes.get(usize::from(venue.number())) {
+            note.take_raise();
         }
     }
 

@@ -6,13 +6,15 @@ use std::sync::atomic::{AtomicBool, Ordering};
 use sweep_release::{Desk, Gate};
 
 /// What is beside the lock of a venue: whether its gate is shut, whether legs are placed there for which its ring had
-/// no room, and whether it is held. These are written under the lock alone. The venue's worker writes whether it sends.
+/// no room, whether it is held, and whether its gate was put down by that and not up since. These are written under the
+/// lock alone. The venue's worker writes whether it sends.
 #[derive(Drop)]
 pub(crate) struct VenueNote {
     venue: VenueId,
     shut: AtomicBool,
     behind: AtomicBool,
     held: AtomicBool,
+    lowered: AtomicBool,
     paused: AtomicBool,
     sending: AtomicBool,
 }
@@ -25,6 +27,7 @@ impl VenueNote {
             shut: AtomicBool::new(false),
             behind: AtomicBool::new(false),
             held: AtomicBool::new(false),
+            lowered: AtomicBool::new(false),
             paused: AtomicBool::new(false),
             sending: AtomicBool::new(false),
         }
@@ -45,6 +48,16 @@ impl VenueNote {
         self.held.load(Ordering::SeqCst)
     }
 
+    /// Whether the venue was held, now or before, and its gate wasn't put up since.
+    pub fn is_lowered(&self) -> bool {
+        self.lowered.load(Ordering::SeqCst)
+    }
+
+    /// Takes note that the gate was put up.
+    pub fn take_raise(&self) {
+        set(&self.lowered, false);
+    }
+
     /// Whether it was paused.
     pub fn is_paused(&self) -> bool {
         self.paused.load(Ordering::SeqCst)
@@ -62,6 +75,9 @@ impl VenueNote {
 
     /// Takes note of what is held.
     pub fn take_holds(&self, holds: &Holds) {
+        if holds.is_held(self.venue) {
+            set(&self.lowered, true);
+        }
         set(&self.held, holds.is_held(self.venue));
         set(&self.paused, holds.is_paused(self.venue));
     }

@@ -105,7 +105,7 @@ impl<K: Link, C: Clock + Drop, L: Run, M: Accounts, J: Telling> WorkerState<K, C
                 break;
             }
             self.heed(rt, lock, stop);
-            let held = lock.is_held(self.takings.venue());
+            let held = self.is_held(lock);
             if self.turn(rt, dialect, lock, collector, &mut buf, held) {
                 rests += 1;
             }
@@ -118,6 +118,12 @@ impl<K: Link, C: Clock + Drop, L: Run, M: Accounts, J: Telling> WorkerState<K, C
         } else {
             EndReason::Stopped
         }
+    }
+
+    /// Whether the venue is held, or was since the worker put its gate up: also a hold that is over has put it down.
+    fn is_held<N: Telling>(&self, lock: &ReleaseLock<L, N>) -> bool {
+        let venue = self.takings.venue();
+        lock.is_held(venue) || (self.raised && lock.is_lowered(venue))
     }
 
     /// Where the worker was told to stop its gate is shut.
@@ -323,7 +329,8 @@ impl<K: Link, C: Clock + Drop, L: Run, M: Accounts, J: Telling> WorkerState<K, C
         lock.tell_sending(venue, false);
     }
 
-    /// The legs that wait are sent, so many at most, until the venue is found held or its gate shut.
+    /// The legs that wait are sent, so many at most, until the venue is found held, now or since its gate went up, or its
+    /// gate shut.
     fn send_some<D: Dialect, N: Telling>(
         &mut self,
         rt: &impl Wait,
@@ -335,7 +342,7 @@ impl<K: Link, C: Clock + Drop, L: Run, M: Accounts, J: Telling> WorkerState<K, C
     {
         let venue = self.takings.venue();
         for _ in 0..LEGS_A_TURN {
-            if lock.is_held(venue) || lock.is_shut(venue) || !self.io.is_up() {
+            if lock.is_lowered(venue) || lock.is_shut(venue) || !self.io.is_up() {
                 return;
             }
             if !self.send_next(rt, dialect, lock, collector) {
