@@ -235,8 +235,8 @@ impl<L: Run, J: Telling> ReleaseLock<L, J> {
         }
     }
 
-    /// Whether a venue was held, now or before, and its gate wasn't put up since: so its worker also learns of a hold that
-    /// is over before it looks. It doesn't wait for the lock.
+    /// Whether a venue was held, now or before, and its gate wasn't put up since. So its worker also learns of a hold
+    /// that is over before it looks. It doesn't wait for the lock.
     pub fn is_lowered(&self, venue: VenueId) -> bool {
         match self.notes.get(usize::from(venue.number())) {
             Some(note) => note.is_lowered(),

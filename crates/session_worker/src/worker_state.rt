@@ -329,8 +329,8 @@ impl<K: Link, C: Clock + Drop, L: Run, M: Accounts, J: Telling> WorkerState<K, C
         lock.tell_sending(venue, false);
     }
 
-    /// The legs that wait are sent, so many at most, until the venue is found held, now or since its gate went up, or its
-    /// gate shut.
+    /// The legs that wait are sent, so many at most, until the venue is found held, now or since its gate went up, or
+    /// its gate shut.
     fn send_some<D: Dialect, N: Telling>(
         &mut self,
         rt: &impl Wait,
