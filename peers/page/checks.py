@@ -590,7 +590,7 @@ def keeps_text_text(trial):
     page.until(f"{why}.includes('<img')", "it is shown")
     expect(page.run(why), f"It logged out: {HOSTILE} (E07)", "all of it")
     page.until("document.querySelector('#refusals li').textContent.includes('<img')", "a refusal is shown")
-    expect(page.run("document.querySelectorAll('img, b').length"), 0, "elements out of a text")
+    expect(page.run("document.querySelectorAll('img, b:not(#environment)').length"), 0, "elements out of a text")
     day.venue("BATS", state="unreachable", text="connection refused", next_s=9)
     page.until(f"{why}.startsWith('Connection refused. Next try in ')", "when it is dialled next")
     try:
@@ -667,6 +667,25 @@ def finds_a_sweep_whose_answer_is_lost(trial):
     press(page, "#ask-yes")
     says(page, "#answer", "Placed as sweep", "it is placed")
     expect((day.loses, len(day.sweeps)), (0, before + 1), "an answer was lost, and it is placed once")
+
+
+def names_the_desk(trial):
+    """A desk with a name and an environment is called so at the top and in the title, and the real one is marked."""
+    trial.stand_in()
+    server = mock.Server(mock.morning())
+    for environment, mark in (("UAT", "test"), ("PROD", "real"), ("live-2", "real")):
+        server.day.label = {"desk": "EQ-1", "environment": environment}
+        page = trial.open(f"{server.base}/")
+        page.until(f"document.title.endsWith({f'{environment} EQ-1 {server.base[7:]}'!r})", "the tab's title")
+        expect(text(page, "h1").split()[:2], ["EQ-1", environment], "the top line")
+        expect(page.run("document.querySelector('header').className"), mark, f"the mark of {environment}")
+        page.close()
+    server.day.label = {}
+    page = trial.open(f"{server.base}/")
+    page.until(f"document.title.endsWith({f'Desk {server.base[7:]}'!r})", "the title of a desk without a name")
+    expect(page.run("document.querySelector('header').className"), "", "the mark of no environment")
+    page.close()
+    server.shutdown()
 
 
 def begins_anew_with_another_run(trial):
@@ -759,6 +778,40 @@ def asks_for_the_token(trial):
     says(page, "#answer", "Placed as sweep 1", "it is placed")
     expect(page.run("sessionStorage.getItem('token')"), "a word of ours", "it is kept")
     expect(len(server.day.sweeps), 1, "it is placed once")
+    page.close()
+    server.shutdown()
+
+
+def asks_for_the_token_to_read(trial):
+    """Where the desk shows its day for a token alone, the page asks for it before it shows anything, and then follows
+    the day."""
+    trial.stand_in()
+    day = mock.Day(["NYSE"])
+    day.place([mock.leg("NYSE", "IBM", "buy", 100, "1")])
+    server = mock.Server(day, token="a word of ours", guarded=True)
+    page = Page(trial.browser, f"{server.base}/")
+    for token in ("another", "a word of ours"):
+        page.until("document.querySelector('#token-ask')?.open && !document.querySelector('#token').value", "asked")
+        expect(len(rows(page)), 0, "nothing is shown")
+        page.type(token)
+        page.key("Enter")
+    page.until("following && document.querySelectorAll('#table tbody').length === 1", "the day is followed")
+    day.place([mock.leg("NYSE", "IBM", "buy", 200, "1")])
+    page.until("document.querySelectorAll('#table tbody').length === 2", "an event comes")
+    page.close()
+    server.shutdown()
+
+
+def shows_nothing_without_its_token(trial):
+    """Where no token is given the page says so, and asks once."""
+    trial.stand_in()
+    server = mock.Server(mock.Day(["NYSE"]), token="a word of ours", guarded=True)
+    page = Page(trial.browser, f"{server.base}/")
+    page.until("document.querySelector('#token-ask')?.open", "asked")
+    press(page, "#token-no")
+    says(page, "#banner", "The desk shows its day for a token alone", "it says so")
+    time.sleep(3)
+    expect(page.run("document.querySelector('#token-ask').open"), False, "it doesn't ask again")
     page.close()
     server.shutdown()
 
@@ -937,7 +990,8 @@ CHECKS = [
     shows_the_sweeps, says_what_a_sweep_trades, finds_a_sweep, shows_what_is_open, shows_executions, opens_a_sweep,
     shows_the_venues, puts_trouble_first, hands_in, names_a_fault, says_why_refused, turns_a_lamp, keeps_text_text,
     is_reached_by_tab, has_names, can_be_read, fits_a_phone, says_when_it_lost_events, greys_what_is_stale,
-    begins_anew_with_another_run, asks_for_the_token, reads_a_long_day, stays_at_home, says_when_an_answer_is_lost,
+    names_the_desk, begins_anew_with_another_run, asks_for_the_token, asks_for_the_token_to_read,
+    shows_nothing_without_its_token, reads_a_long_day, stays_at_home, says_when_an_answer_is_lost,
     finds_a_sweep_whose_answer_is_lost, closes_the_day, begins_anew_behind_a_closed_day,
 ]
 

@@ -1,7 +1,7 @@
 """A stand-in for a desk's day behind its page: it answers the calls of the interface and tells events, out of a day
 that its caller moves. It has no sessions and no exchanges. By itself it plays a day that goes on for ever:
 
-    python3 peers/page/mock.py --port 8080 [--token WORD]
+    python3 peers/page/mock.py --port 8080 [--token WORD [--guarded]]
 """
 
 import argparse
@@ -43,6 +43,8 @@ class Day:
 
     def __init__(self, names):
         self.run = f"{datetime.now(timezone.utc):%Y-%m-%dT%H:%M:%S.%fZ}"
+        # What its file calls it, and where it trades.
+        self.label = {}
         self.lock = threading.RLock()
         self.venues = {name: self.new_venue(name) for name in names}
         self.sweeps = []
@@ -265,6 +267,10 @@ class Handler(BaseHTTPRequestHandler):
         self.wfile.write(body)
         self.close_connection = True
 
+    def knows_token(self):
+        token = self.server.token
+        return not token or self.headers.get("Authorization") == f"Bearer {token}"
+
     def hangs(self):
         """Whether the desk doesn't answer at all."""
         if not self.server.day.answers:
@@ -282,6 +288,8 @@ class Handler(BaseHTTPRequestHandler):
         place = urlsplit(self.path)
         if place.path == "/":
             self.answer(200, PAGE.read_bytes(), "text/html; charset=utf-8")
+        elif self.server.guarded and not self.knows_token():
+            self.answer(401, {"fault": "no token, or another one"})
         elif place.path == "/api/events":
             self.stream()
         elif place.path == "/api/venues":
@@ -330,7 +338,7 @@ class Handler(BaseHTTPRequestHandler):
                 self.answer(503, {"fault": "too many streams"})
                 return
             events = queue.Queue()
-            events.put(f"event: run\ndata: {json.dumps({'run': day.run})}\n\n")
+            events.put(f"event: run\ndata: {json.dumps({'run': day.run, **day.label})}\n\n")
             day.streams.append(events)
         try:
             self.send_response(200)
@@ -365,7 +373,7 @@ class Handler(BaseHTTPRequestHandler):
             self.answer(403, {"fault": "a foreign origin"})
         elif self.headers.get("Content-Type") != "application/json":
             self.answer(415, {"fault": "another content type"})
-        elif self.server.token and self.headers.get("Authorization") != f"Bearer {self.server.token}":
+        elif not self.knows_token():
             self.answer(401, {"fault": "no token, or another one"})
         elif self.path == "/api/sweeps":
             self.place(body)
@@ -395,10 +403,12 @@ class Server(ThreadingHTTPServer):
 
     daemon_threads = True
 
-    def __init__(self, day, port=0, token=None):
+    def __init__(self, day, port=0, token=None, guarded=False):
         super().__init__(("127.0.0.1", port), Handler)
         self.day = day
         self.token = token
+        # Whether the token is asked for by the calls that read, too.
+        self.guarded = guarded
         self.host = f"127.0.0.1:{self.server_port}"
         self.base = f"http://{self.host}"
         threading.Thread(target=self.serve_forever, daemon=True).start()
@@ -478,10 +488,11 @@ def main():
     words = argparse.ArgumentParser(description=__doc__)
     words.add_argument("--port", type=int, default=8080)
     words.add_argument("--token")
+    words.add_argument("--guarded", action="store_true")
     asked = words.parse_args()
     day = morning()
     troubles(day)
-    server = Server(day, asked.port, asked.token)
+    server = Server(day, asked.port, asked.token, asked.guarded)
     print(f"the page is at {server.base}", flush=True)
     threading.Thread(target=go_on, args=(day,), daemon=True).start()
     try:

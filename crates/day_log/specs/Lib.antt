@@ -1,3 +1,4 @@
+pub mod By
 pub mod Fault
 pub mod Folder
 pub mod Header

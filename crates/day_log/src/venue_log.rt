@@ -1,6 +1,7 @@
 //! The lines of a log between the thread that puts them and the one that writes them.
 
-ghost use Rattle.std.specs.Prelude.{◌≡◌, IfSome, IsSomeAnd};
+ghost use Rattle.std.specs.Prelude.{◌≡◌, ◌++◌, IfOk, IfSome, IsSomeAnd, codes};
+ghost use Rattle.message_log.specs.declared.direction.Direction.TheVariants.{Sent};
 ghost use Rattle.message_log.specs.Line.{line_text};
 
 use crate::counts::LogCounts;
@@ -38,6 +39,16 @@ fn line_of(
         Some(text) => log_line(alloc, stamp, direction, text).ok(),
         None => None,
     }
+}
+
+/// The line of a remark, which whoever reads the log passes over: `# 20261124-14:30:00.123 > by alice`.
+fn remark_line(alloc: Global, stamp: &Stamp, words: &[u8]) -> Result<Vec<u8>, AllocError>
+    ensures { IfOk result (λ line. line.items ≡ codes "# " ++ line_text stamp.now Sent words.now) }
+{
+    let mut line = Vec::new(alloc);
+    line.extend_from_slice(b"# ")?;
+    line.extend_from_slice(&log_line(alloc, stamp, Direction::Sent, words)?)?;
+    Ok(line)
 }
 
 impl VenueLog {
@@ -85,6 +96,17 @@ impl VenueLog {
                 self.lines.tell();
             }
             None => self.queue.lock(rt).lose(),
+        }
+    }
+
+    /// Puts a remark behind the lines that wait. It is lost, and counted so, where there is no room or memory for it.
+    pub fn remark(&self, rt: &impl Wait, stamp: &Stamp, words: &[u8]) {
+        match remark_line(self.alloc, stamp, words) {
+            Ok(line) => {
+                self.put(rt, line.as_slice());
+                self.lines.tell();
+            }
+            Err(_) => self.queue.lock(rt).lose(),
         }
     }
 

@@ -6,4 +6,6 @@ pub mod FieldsRead
 pub mod HostsRead
 pub mod DayParts
 pub mod SymbolsRead
+pub mod DressRead
+pub mod UsersRead
 pub mod Terms

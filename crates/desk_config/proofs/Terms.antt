@@ -1,6 +1,6 @@
 -- The terms of each venue that a file's bytes spell are a session's.
 use Rattle.std.proofs.Common.{◌≡◌, ◌≤◌, ℕ, zero, suc, List, [], ◌∷◌, ◌++◌, Some, None, refl, sym, ap, subst, ◌∙◌, arith}
-use Rattle.std.specs.Prelude.{Bool, ◌⊎◌, Option, Result, Ok, Err, slice_get, unwrap_or, option_map, IfSome, option_and_then, if◌then◌else◌, true, false}
+use Rattle.std.specs.Prelude.{Bool, codes, ◌⊎◌, Option, Result, Ok, Err, slice_get, unwrap_or, option_map, IfSome, option_and_then, if◌then◌else◌, true, false}
 use Rattle.std.specs.List.{All}
 use Rattle.std.proofs.lemmas.Bool.Decides.{nat_tests}
 use Rattle.toml.specs.Data.{Data, as_bool, Items, no_items, item, table, Members, as_str, as_integer, get}
@@ -20,7 +20,10 @@ use Rattle.desk_config.specs.declared.place.Place.TheVariants as place
 use Rattle.desk_config.specs.declared.session_terms.SessionTerms.{SessionTerms}
 use Rattle.desk_config.specs.declared.venue.Venue.{Venue}
 use Rattle.desk_config.specs.Config.{AnswersText, config_in, config_of, ConfigParts, parts_of_config}
-use Rattle.desk_config.specs.Desk.{comp_id_in, desk_found, desk_in, desk_table, journal_in, no_desk, page_and_token, printable_in}
+use Rattle.desk_config.specs.Desk.{comp_id_in, desk_found, desk_in, desk_table, doors_in, has_users, is_guarded, journal_in, label_in, no_desk, printable_in}
+use Rattle.desk_config.specs.Addresses.{dialled_in}
+use Rattle.desk_config.specs.Dress.{dress_in}
+use Rattle.desk_config.specs.Users.{users_of}
 use Rattle.desk_config.specs.Number.{nat_of, number_within}
 use Rattle.desk_config.specs.Reading.{and_then, checked, found_at, in_place, needed, read_or_bad, there, value_at}
 use Rattle.desk_config.specs.Key.{key_name}
@@ -171,13 +174,28 @@ unfolding venue_in
 venue_is desk given venue theirs is =
     let known = ok_of (checked keys.Venue given) _ venue is in
     let name = ok_of (needed name_in key.Name given) _ venue known.2 in
-    let exchange = ok_of (endpoint_in given) _ venue name.2 in
+    let dialled = ok_of (dialled_in given) _ venue name.2 in
+    let exchange = ok_of (endpoint_in dialled.0.place given) _ venue dialled.2 in
     let target = ok_of (needed comp_id_in key.Target given) _ venue exchange.2 in
     let sender = ok_of (sender_in desk given) _ venue target.2 in
     let words = ok_of (words_in given) _ venue sender.2 in
-    let session = ok_of (session_in given) _ venue words.2 in
+    let dress = ok_of (dress_in words.0 given) _ venue words.2 in
+    let password = ok_of (value_at (printable_in 200) key.PasswordFile given) _ venue dress.2 in
+    let session = ok_of (session_in given) _ venue password.2 in
     let limits = ok_of (leg_limits_in given) _ venue session.2 in
-    let same : record { name = name.0; endpoint = exchange.0; target = target.0; sender = sender.0; session = session.0; words = words.0; limits = limits.0 } ≡ venue = cc limits.2 in
+    let made : Venue = record {
+      name = name.0;
+      endpoint = exchange.0;
+      backups = dialled.0.backups;
+      target = target.0;
+      sender = sender.0;
+      session = session.0;
+      words = words.0;
+      dress = dress.0;
+      password_file = password.0;
+      limits = limits.0;
+    } in
+    let same : made ≡ venue = same_ok (Ok made) made venue refl limits.2 in
     let peer = read_needed comp_id_in key.Target given target.0 target.1 in
     let terms = terms_are given session.0 session.1 in
     subst (λ v. HasTerms v) same (record {
@@ -232,38 +250,43 @@ all_are desk file venues theirs is =
     venues_are desk [] items.0 venues theirs none_are items.2
 
 -- the comp id that a file has for all its venues, if it has one, is one
-table_id : (desk : Data) (read : DeskTable) → desk_table desk ≡ Ok read → IsMaybeId read.sender
+table_id : (users : Bool) (desk : Data) (read : DeskTable) → desk_table users desk ≡ Ok read → IsMaybeId read.sender
 unfolding desk_table
-table_id desk read is =
+table_id users desk read is =
     let known = ok_of (checked keys.Desk desk) _ read is in
     let sender = ok_of (value_at comp_id_in key.Sender desk) _ read known.2 in
     let callers = ok_of (value_at (number_within 1 64) key.Callers desk) _ read sender.2 in
     let log = ok_of (value_at (printable_in 200) key.Log desk) _ read callers.2 in
     let journal = ok_of (journal_in desk) _ read log.2 in
-    let served = ok_of (page_and_token desk) _ read journal.2 in
-    let same : sender.0 ≡ read.sender = cc served.2 in
+    let doors = ok_of (doors_in users desk) _ read journal.2 in
+    let label = ok_of (label_in desk) _ read doors.2 in
+    let table : DeskTable =
+    record { sender = sender.0; callers = unwrap_or callers.0 8; log = log.0; journal = journal.0; doors = doors.0; label = label.0 } in
+    let same : sender.0 ≡ read.sender =
+    ap (λ (t : DeskTable). t.sender) (same_ok (Ok table) table read refl label.2) in
     subst IsMaybeId same (maybe_id key.Sender desk sender.0 sender.1)
 
-found_id : (given : Option Data) (read : DeskTable) → desk_found given ≡ Ok read → IsMaybeId read.sender
-found_id None read is = let same : no_desk ≡ read = cc is in subst (λ r. IsMaybeId r.sender) same tt
-found_id (Some desk) read is = table_id desk read (unplaced _ _ read is)
+found_id : (users : Bool) (given : Option Data) (read : DeskTable) → desk_found users given ≡ Ok read → IsMaybeId read.sender
+found_id users None read is = let same : no_desk ≡ read = cc is in subst (λ r. IsMaybeId r.sender) same tt
+found_id users (Some desk) read is = table_id users desk read (unplaced _ _ read is)
 
 file_id : (file : Data) (read : DeskTable) → desk_in file ≡ Ok read → IsMaybeId read.sender
 unfolding desk_in
-file_id file read is = found_id _ read is
+file_id file read is = found_id (has_users file) (get (codes "desk") file) read is
 
 file_are : (file : Data) (parts : ConfigParts) → config_in file ≡ Ok parts → HaveTerms parts.venues
 unfolding config_in
 file_are file parts is =
     let known = ok_of (in_place place.File (checked keys.File file)) _ parts is in
     let desk = ok_of (desk_in file) _ parts known.2 in
-    let hosts = ok_of (hosts_of desk.0.token file) _ parts desk.2 in
+    let hosts = ok_of (hosts_of (is_guarded (has_users file) desk.0.doors.token) file) _ parts desk.2 in
     let limits = ok_of (limits_in file) _ parts hosts.2 in
     let symbols = ok_of (symbols_of file) _ parts limits.2 in
     let venues = ok_of (venues_of desk.0.sender file) _ parts symbols.2 in
-    let away = ok_of (in_place place.Desk (apart_from_desk desk.0.journal venues.0)) _ parts venues.2 in
+    let users = ok_of (users_of file) _ parts venues.2 in
+    let away = ok_of (in_place place.Desk (apart_from_desk desk.0.journal venues.0)) _ parts users.2 in
     let same : venues.0 ≡ parts.venues =
-    ap (λ (p : ConfigParts). p.venues) (same_ok (Ok (config_of desk.0 hosts.0 limits.0 symbols.0 venues.0)) (config_of desk.0 hosts.0 limits.0 symbols.0 venues.0)
+    ap (λ (p : ConfigParts). p.venues) (same_ok (Ok (config_of desk.0 hosts.0 users.0 limits.0 symbols.0 venues.0)) (config_of desk.0 hosts.0 users.0 limits.0 symbols.0 venues.0)
     parts refl away.2) in
     subst HaveTerms same (all_are desk.0.sender file venues.0 (file_id file desk.0 desk.1) venues.1)
 

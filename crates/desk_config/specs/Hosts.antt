@@ -36,29 +36,26 @@ hosts_from earlier (item given rest) =
 abbrev pub is_host_count : ℕ → Bool
 is_host_count n = nat_le 1 n && nat_le n 8
 
--- whoever the page is named to has a token to give
-abbrev pub if_token : Option (List ℕ) → Items → Result Items Fault
-if_token (Some token) items = Ok items
-if_token None items = Err HostsNeedToken
-
--- the values of an array of 1 to 8, where there is a token
-unfoldable pub host_items : Option (List ℕ) → Data → Result Items Fault
-host_items token (array items) =
-    if is_host_count (items_count items) then if_token token items else Err (Bad Hosts (found_of (array items)))
-host_items token given = Err (Bad Hosts (found_of given))
+-- the values of an array of 1 to 8, where a token or a user guards the day
+unfoldable pub host_items : Bool → Data → Result Items Fault
+host_items is_guarded (array items) =
+    if is_host_count (items_count items) then (if is_guarded then Ok items else Err HostsNeedToken)
+    else Err (Bad Hosts (found_of (array items)))
+host_items is_guarded given = Err (Bad Hosts (found_of given))
 
 -- the value of `hosts`, where `[desk]` has it
 abbrev pub hosts_at : Data → Option Data
 hosts_at file = option_and_then (get (codes "hosts")) (get (codes "desk") file)
 
 -- no names where it hasn't
-abbrev pub hosts_found : Option (List ℕ) → Option Data → Result (List (List ℕ)) KeyFault
-hosts_found token None = Ok []
-hosts_found token (Some given) = and_then (in_place place.Desk (host_items token given)) (λ items. hosts_from [] items)
+abbrev pub hosts_found : Bool → Option Data → Result (List (List ℕ)) KeyFault
+hosts_found is_guarded None = Ok []
+hosts_found is_guarded (Some given) =
+    and_then (in_place place.Desk (host_items is_guarded given)) (λ items. hosts_from [] items)
 
--- what `hosts` says, where the desk has this token, or the first fault
-unfoldable pub hosts_of : Option (List ℕ) → Data → Result (List (List ℕ)) KeyFault
-hosts_of token file = hosts_found token (hosts_at file)
+-- what `hosts` says, where something guards the day or not, or the first fault
+unfoldable pub hosts_of : Bool → Data → Result (List (List ℕ)) KeyFault
+hosts_of is_guarded file = hosts_found is_guarded (hosts_at file)
 
 -- the answer is what is said, or its fault; or memory ran out
 abbrev pub AnswersHosts : Result (List (List ℕ)) KeyFault → Result (Vec (List ℕ) Global) ConfigFault → Type 0

@@ -13,8 +13,13 @@ pub mod Desk
 pub mod Hosts
 pub mod LimitKeys
 pub mod Symbols
+pub mod User
+pub mod Addresses
 pub mod Words
+pub mod Dress
 pub mod Venue
 pub mod Venues
 pub mod Apart
+pub mod Rights
+pub mod Users
 pub mod Config

@@ -12,19 +12,17 @@ use Rattle.desk_config.specs.declared.key.Key.TheVariants as key
 use Rattle.desk_config.specs.declared.keys.Keys.TheVariants as keys
 use Rattle.desk_config.specs.declared.session_terms.SessionTerms.{SessionTerms}
 use Rattle.desk_config.specs.declared.venue.Venue.{Venue}
-use Rattle.desk_config.specs.Desk.{comp_id_in}
-use Rattle.desk_config.specs.Endpoint.{where_of}
+use Rattle.desk_config.specs.Desk.{comp_id_in, printable_in}
+use Rattle.desk_config.specs.Addresses.{dialled_in}
 use Rattle.desk_config.specs.Number.{number_within}
 use Rattle.desk_config.specs.Reading.{and_then, checked, needed, value_at}
 use Rattle.desk_config.specs.Words.{words_in}
 use Rattle.desk_config.specs.LimitKeys.{leg_limits_in}
+use Rattle.desk_config.specs.Dress.{dress_in}
 
--- a venue's name and its address, as the file spells them
+-- a venue's name, as the file spells it
 abbrev pub name_in : Data → Option (List ℕ)
 name_in given = option_and_then venue_name_of (as_str given)
-
-abbrev pub where_in : Data → Option Where
-where_in given = option_and_then where_of (as_str given)
 
 -- only a simulated exchange is told what it fills
 abbrev pub endpoint_of : Where → Option ℕ → Result Endpoint Fault
@@ -33,10 +31,9 @@ endpoint_of (there_is.At address) (Some fill) = Err OnlySimulated
 endpoint_of there_is.Simulated fill = Ok (endpoint.Simulated (unwrap_or fill 1_000_000))
 
 -- the exchange of a venue
-unfoldable pub endpoint_in : Data → Result Endpoint Fault
-endpoint_in given =
-    and_then (needed where_in key.Address given) (λ place.
-    and_then (value_at (number_within 0 1_000_000) key.Fill given) (λ fill. endpoint_of place fill))
+unfoldable pub endpoint_in : Where → Data → Result Endpoint Fault
+endpoint_in place given =
+    and_then (value_at (number_within 0 1_000_000) key.Fill given) (λ fill. endpoint_of place fill)
 
 -- the venue's comp id, or the desk's
 abbrev pub own_or_desk : Option (List ℕ) → Option (List ℕ) → Result (List ℕ) Fault
@@ -67,18 +64,24 @@ unfoldable pub venue_in : Option (List ℕ) → Data → Result Venue Fault
 venue_in desk given =
     and_then (checked keys.Venue given) (λ _.
     and_then (needed name_in key.Name given) (λ name.
-    and_then (endpoint_in given) (λ exchange.
+    and_then (dialled_in given) (λ dialled.
+    and_then (endpoint_in dialled.place given) (λ exchange.
     and_then (needed comp_id_in key.Target given) (λ target.
     and_then (sender_in desk given) (λ sender.
     and_then (words_in given) (λ words.
+    and_then (dress_in words given) (λ dress.
+    and_then (value_at (printable_in 200) key.PasswordFile given) (λ password.
     and_then (session_in given) (λ session.
     and_then (leg_limits_in given) (λ limits.
     Ok (record {
       name = name;
       endpoint = exchange;
+      backups = dialled.backups;
       target = target;
       sender = sender;
       session = session;
       words = words;
+      dress = dress;
+      password_file = password;
       limits = limits;
-    })))))))))
+    }))))))))))))

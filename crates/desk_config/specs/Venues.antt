@@ -1,10 +1,12 @@
 -- The venues of a file.
-use Rattle.std.specs.Prelude.{◌≡◌, ℕ, ◌+◌, Bool, false, ◌&&◌, ◌==◌, nat_le, List, [], ◌∷◌, ◌++◌, length, codes, Option, Some, None, option_and_then, position, Result, Ok, Err, if◌then◌else◌, Vec}
+use Rattle.std.specs.Prelude.{◌≡◌, ℕ, ◌+◌, Bool, false, ◌&&◌, ◌||◌, ◌==◌, nat_le, List, [], ◌∷◌, ◌++◌, length, codes, Option, Some, None, option_and_then, position, Result, Ok, Err, if◌then◌else◌, Vec}
+use Rattle.std.specs.List.{list_any}
 use Rattle.std.specs.Str.{bytes_eq}
 use Rattle.std.specs.declared.alloc.Global.{Global}
 use Rattle.toml.specs.Data.{Data, array, get, Items, no_items, item}
+use Rattle.desk_config.specs.declared.address.Address.{Address}
 use Rattle.desk_config.specs.declared.endpoint.Endpoint.{Endpoint}
-use Rattle.desk_config.specs.declared.endpoint.Endpoint.TheVariants.{At}
+use Rattle.desk_config.specs.declared.endpoint.Endpoint.TheVariants.{At, Simulated}
 use Rattle.desk_config.specs.declared.fault.ConfigFault.{ConfigFault}
 use Rattle.desk_config.specs.declared.fault.ConfigFault.TheVariants as fault
 use Rattle.desk_config.specs.declared.fault.Fault.{Fault}
@@ -18,19 +20,52 @@ use Rattle.desk_config.specs.Found.{found_of, items_count}
 use Rattle.desk_config.specs.Reading.{and_then, in_place}
 use Rattle.desk_config.specs.Venue.{name_in, venue_in}
 
--- whether two exchanges are dialled at one address
-abbrev pub same_address : Endpoint → Endpoint → Bool
-same_address (At one) (At other) = bytes_eq one.host other.host && one.port == other.port
-same_address _ _ = false
+-- whether two addresses are one
+abbrev pub same_address : Address → Address → Bool
+same_address one other = bytes_eq one.host other.host && one.port == other.port
+
+-- whether a venue is dialled at an address: first, or as one of its backups
+abbrev pub is_first : Address → Endpoint → Bool
+is_first address (At first) = same_address address first
+is_first address (Simulated fill) = false
+
+abbrev pub is_backup : Address → Option Address → Bool
+is_backup address (Some backup) = same_address address backup
+is_backup address None = false
+
+abbrev pub is_among : Address → List (Option Address) → Bool
+is_among address backups = list_any (λ backup. is_backup address backup) backups
+
+abbrev pub is_dialled_at : Address → Venue → Bool
+is_dialled_at address venue =
+    is_first address venue.endpoint || is_among address venue.backups
+
+-- whether two venues have an address in common
+abbrev pub shares_at : Endpoint → Venue → Bool
+shares_at (At address) other = is_dialled_at address other
+shares_at (Simulated fill) other = false
+
+abbrev pub shares_first : Venue → Venue → Bool
+shares_first one other = shares_at one.endpoint other
+
+abbrev pub shares_backup : Venue → Option Address → Bool
+shares_backup other (Some address) = is_dialled_at address other
+shares_backup other None = false
+
+abbrev pub shares_any : Venue → List (Option Address) → Bool
+shares_any other backups = list_any (λ backup. shares_backup other backup) backups
+
+unfoldable pub share_address : Venue → Venue → Bool
+share_address one other = shares_first one other || shares_any other one.backups
 
 -- whether two venues have the same name
 abbrev pub same_name : Venue → Venue → Bool
 same_name one other = bytes_eq one.name other.name
 
--- whether two venues would be one session
+-- whether two venues could be one session
 abbrev pub same_session : Venue → Venue → Bool
 same_session one other =
-    same_address one.endpoint other.endpoint && bytes_eq one.target other.target && bytes_eq one.sender other.sender
+    share_address one other && bytes_eq one.target other.target && bytes_eq one.sender other.sender
 
 -- the fault of a venue with the name or the session of the venue at this index
 abbrev pub same_as : Option ℕ → Option ℕ → Result (Unit {0}) Fault

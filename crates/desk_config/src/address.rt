@@ -46,17 +46,17 @@ pub(crate) fn read_host(text: &[u8]) -> Option<Printable<MAX_HOST>>
     Printable::new(text)
 }
 
-fn first_colon(text: &[u8]) -> Option<usize>
-    ensures { result ≡ position (λ c. c == 58) text.now }
+fn first_of(mark: u8, text: &[u8]) -> Option<usize>
+    ensures { result ≡ position (λ c. c == mark) text.now }
 {
-    text.iter().position(|byte| *byte == b':')
+    text.iter().position(|byte| *byte == mark)
 }
 
-/// What stands before the first colon, and what behind it.
-fn parts_of(text: &[u8]) -> Option<(&[u8], &[u8])>
-    ensures { option_map (λ parts. (parts.0.now, parts.1.now)) result ≡ parts_round 58 text.now }
+/// What stands before the first of these bytes, and what behind it.
+pub(crate) fn parts_at(mark: u8, text: &[u8]) -> Option<(&[u8], &[u8])>
+    ensures { option_map (λ parts. (parts.0.now, parts.1.now)) result ≡ parts_round mark text.now }
 {
-    let at = first_colon(text)?;
+    let at = first_of(mark, text)?;
     Some((&text[..at], &text[at + 1..]))
 }
 
@@ -66,7 +66,7 @@ impl Address {
     pub fn new(text: &[u8]) -> Option<Address>
         ensures { result ≡ address_of text.now }
     {
-        let (host, port) = parts_of(text)?;
+        let (host, port) = parts_at(b':', text)?;
         let host = read_host(host)?;
         let port = Port::new(read_number(port)?)?;
         Some(Address { host, port })

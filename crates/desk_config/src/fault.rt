@@ -39,12 +39,37 @@ pub enum Fault {
         found: Found,
         fault: FieldFault,
     },
+    /// A field of the header or the Logon isn't taken: which one, counted from 1.
+    Field {
+        key: Key,
+        number: usize,
+        found: Found,
+        fault: FieldFault,
+    },
     /// What the journal outlives is said, and there is none.
     NoJournal,
-    /// The page's host isn't 127.0.0.1, and there is no token.
-    NeedsToken,
-    /// The page has a name of its own, and there is no token.
+    /// The host of this key's address isn't 127.0.0.1, and there is neither a token nor a user.
+    NeedsToken(Key),
+    /// The page has a name of its own, and there is neither a token nor a user.
     HostsNeedToken,
+    /// There are users beside the token of the desk.
+    TokenBesideUsers,
+    /// A user has both `token` and `token_file`.
+    TwoTokens,
+    /// A value of `may` names nothing that a user may do: which one, counted from 1.
+    Right {
+        number: usize,
+        found: Found,
+    },
+    /// A value of `may` names what an earlier one does: which one, counted from 1.
+    RightTwice {
+        number: usize,
+        found: Found,
+    },
+    /// An earlier user, counted from 1, has the same name.
+    SameUser(usize),
+    /// An earlier user, counted from 1, is known by the same token.
+    SameToken(usize),
     /// A name of the page isn't one: which one, counted from 1.
     Host {
         number: usize,
@@ -52,6 +77,13 @@ pub enum Fault {
     },
     /// A symbol of the limits isn't one: which one, counted from 1.
     Symbol {
+        number: usize,
+        found: Found,
+    },
+    /// A venue has both `address` and `addresses`.
+    TwoAddresses,
+    /// One of a venue's addresses isn't one: which one, counted from 1.
+    Address {
         number: usize,
         found: Found,
     },
@@ -84,9 +116,31 @@ impl fmt::Display for Fault {
                 found,
                 fault,
             } => write!(f, "order {number} is {found}: {fault}"),
+            Fault::Field {
+                key,
+                number,
+                found,
+                fault,
+            } => write!(f, "{key} {number} is {found}: {fault}"),
             Fault::NoJournal => write!(f, "durable is there, and there is no journal"),
-            Fault::NeedsToken => write!(f, "page is not at 127.0.0.1, and there is no token"),
-            Fault::HostsNeedToken => write!(f, "hosts is there, and there is no token"),
+            Fault::NeedsToken(key) => {
+                write!(
+                    f,
+                    "{key} is not at 127.0.0.1, and there is no token and no user"
+                )
+            }
+            Fault::HostsNeedToken => write!(f, "hosts is there, and there is no token and no user"),
+            Fault::TokenBesideUsers => write!(f, "token is there, and so are users"),
+            Fault::TwoTokens => write!(f, "token and token_file are both there"),
+            Fault::Right { number, found } => write!(
+                f,
+                "may {number} is {found}, and has to be read, trade, close or halt"
+            ),
+            Fault::RightTwice { number, found } => {
+                write!(f, "may {number} is {found}, as an earlier one is")
+            }
+            Fault::SameUser(place) => write!(f, "name is that of user {place}"),
+            Fault::SameToken(place) => write!(f, "token is that of user {place}"),
             Fault::Host { number, found } => write!(
                 f,
                 "hosts {number} is {found}, and has to be a name as desk.example.com"
@@ -95,6 +149,10 @@ impl fmt::Display for Fault {
                 f,
                 "symbols {number} is {found}, and has to be a symbol as BRK.B"
             ),
+            Fault::TwoAddresses => write!(f, "address and addresses are both there"),
+            Fault::Address { number, found } => {
+                write!(f, "addresses {number} is {found}, and has to be HOST:PORT")
+            }
             Fault::OnlySimulated => write!(f, "fill is there, and the venue isn't simulated"),
             Fault::SameName(place) => write!(f, "name is that of venue {place}"),
             Fault::SameSession(place) => {

@@ -11,10 +11,12 @@ ghost use Rattle.desk_config.specs.Address.{address_of};
 ghost use Rattle.desk_config.specs.Endpoint.{where_of};
 ghost use Rattle.desk_config.specs.Journal.{durable_named, pattern_of};
 ghost use Rattle.desk_config.specs.Number.{number_within};
+ghost use Rattle.desk_config.specs.User.{user_name_of};
 
 use crate::address::Address;
 use crate::endpoint::Where;
 use crate::journal::{DayPattern, Durable};
+use crate::user::UserName;
 use crate::within::Within;
 use desk_words::{Printable, VenueName};
 use dialect::AnyDialect;
@@ -99,6 +101,14 @@ impl FromValue for Where {
 
     fn from_value(value: &Value) -> Option<Where> {
         Where::new(value.as_str()?)
+    }
+}
+
+impl FromValue for UserName {
+    ghost reads = { λ given. option_and_then user_name_of (as_str given) };
+
+    fn from_value(value: &Value) -> Option<UserName> {
+        UserName::new(value.as_str()?.as_bytes())
     }
 }
 

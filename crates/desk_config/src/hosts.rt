@@ -6,7 +6,7 @@ ghost use Rattle.desk_config.specs.Venues.{result_map};
 ghost use Rattle.toml.specs.View.{array_view, view};
 
 use crate::address::read_host;
-use crate::config::{HostName, TokenText};
+use crate::config::HostName;
 use crate::fault::{ConfigFault, Fault, KeyFault};
 use crate::found::Found;
 use crate::key::Key;
@@ -49,17 +49,20 @@ fn hosts_at(file: &Value) -> Option<&Value>
     file.get("desk")?.get(Key::Hosts.name())
 }
 
-/// The values of `hosts`, 1 to 8, where there is a token.
+/// The values of `hosts`, 1 to 8, where a token or a user guards the day.
 #[tactic(auto, using(crate::proofs::Views::items_count_view), unfolding(crate::specs::Hosts::host_items))]
-fn host_items<'a>(token: &Option<TokenText>, value: &'a Value) -> Result<&'a Array, Fault>
-    ensures value { host_items token.now (view value.now) ≡ (result_map (λ items. array_view items.now) result) }
+fn host_items(is_guarded: bool, value: &Value) -> Result<&Array, Fault>
+    ensures value { host_items is_guarded (view value.now) ≡ (result_map (λ items. array_view items.now) result) }
     ensures few { IfOk result (λ items. length items.now.items ≤ 8) }
 {
     match value.as_array() {
-        Some(items) if !items.is_empty() && items.len() <= MAX_HOSTS => match token {
-            Some(_) => Ok(items),
-            None => Err(Fault::HostsNeedToken),
-        },
+        Some(items) if !items.is_empty() && items.len() <= MAX_HOSTS => {
+            if is_guarded {
+                Ok(items)
+            } else {
+                Err(Fault::HostsNeedToken)
+            }
+        }
         _ => Err(Fault::Bad {
             key: Key::Hosts,
             found: Found::of(value),
@@ -83,19 +86,19 @@ fn each_host(alloc: Global, values: &Array) -> Result<Vec<HostName>, ConfigFault
     Ok(hosts)
 }
 
-/// What `hosts` says, where the desk has this token.
+/// What `hosts` says, where a token or a user guards the day, or nothing does.
 #[tactic(auto, unfolding(crate::specs::Hosts::hosts_of))]
 pub(crate) fn read_hosts(
     alloc: Global,
-    token: &Option<TokenText>,
+    is_guarded: bool,
     file: &Value,
 ) -> Result<Vec<HostName>, ConfigFault>
-    ensures { AnswersHosts (hosts_of token.now (view file.now)) result }
+    ensures { AnswersHosts (hosts_of is_guarded (view file.now)) result }
 {
     let Some(value) = hosts_at(file) else {
         return Ok(Vec::new(alloc));
     };
-    match host_items(token, value) {
+    match host_items(is_guarded, value) {
         Ok(values) => each_host(alloc, values),
         Err(fault) => Err(ConfigFault::Key(KeyFault {
             place: Place::Desk,

@@ -14,6 +14,7 @@ pub(crate) enum Keys {
     Venue,
     Words,
     Limits,
+    User,
 }
 
 impl Keys {
@@ -26,6 +27,7 @@ impl Keys {
             Keys::Venue => is_venue_key(key),
             Keys::Words => is_word_key(key),
             Keys::Limits => is_limit_key(key),
+            Keys::User => is_user_key(key),
         }
     }
 
@@ -46,7 +48,7 @@ impl Keys {
 fn is_file_key(key: &str) -> bool
     ensures { result ≡ has_key Keys.File key.now }
 {
-    matches!(key, "desk" | "limits" | "venue")
+    matches!(key, "desk" | "limits" | "venue" | "user")
 }
 
 fn is_desk_key(key: &str) -> bool
@@ -54,7 +56,18 @@ fn is_desk_key(key: &str) -> bool
 {
     matches!(
         key,
-        "sender" | "callers" | "log" | "journal" | "durable" | "page" | "token" | "hosts"
+        "name"
+            | "environment"
+            | "sender"
+            | "callers"
+            | "log"
+            | "journal"
+            | "durable"
+            | "page"
+            | "listen"
+            | "socket"
+            | "token"
+            | "hosts"
     )
 }
 
@@ -65,11 +78,15 @@ fn is_venue_key(key: &str) -> bool
         key,
         "name"
             | "address"
+            | "addresses"
             | "target"
             | "sender"
             | "dialect"
             | "words"
             | "order"
+            | "header"
+            | "logon"
+            | "password_file"
             | "heartbeat"
             | "next_expected"
             | "reopen"
@@ -93,4 +110,10 @@ fn is_limit_key(key: &str) -> bool
         key,
         "leg_shares" | "leg_dollars" | "sweep_dollars" | "day_dollars" | "symbols"
     )
+}
+
+fn is_user_key(key: &str) -> bool
+    ensures { result ≡ has_key Keys.User key.now }
+{
+    matches!(key, "name" | "token" | "token_file" | "may")
 }

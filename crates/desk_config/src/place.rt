@@ -3,6 +3,7 @@
 ghost use Rattle.std.specs.Prelude.{Some};
 ghost use Rattle.desk_config.specs.Fault.{place_text};
 
+use crate::user::UserName;
 use desk_words::VenueName;
 use std::fmt;
 
@@ -20,6 +21,11 @@ pub enum Place {
         number: usize,
         name: Option<VenueName>,
     },
+    /// A `[[user]]`, likewise.
+    User {
+        number: usize,
+        name: Option<UserName>,
+    },
 }
 
 impl fmt::Display for Place {
@@ -35,6 +41,11 @@ impl fmt::Display for Place {
                 number,
                 name: Some(name),
             } => write!(f, "venue {number} ({name}): "),
+            Place::User { number, name: None } => write!(f, "user {number}: "),
+            Place::User {
+                number,
+                name: Some(name),
+            } => write!(f, "user {number} ({name}): "),
         }
     }
 }

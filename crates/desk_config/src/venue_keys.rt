@@ -4,6 +4,8 @@ ghost use Rattle.std.specs.Prelude.{◌≡◌};
 ghost use Rattle.desk_config.specs.Venue.{endpoint_in, sender_in, session_in, venue_in};
 ghost use Rattle.toml.specs.View.{view};
 
+use crate::address_keys::{Dialled, dialled_in};
+use crate::dress_keys::dress_in;
 use crate::endpoint::{Endpoint, FillShares, Where};
 use crate::fault::Fault;
 use crate::key::Key;
@@ -23,13 +25,11 @@ const HEARTBEAT: u64 = 30;
 /// The number that a session's numbers end before where the file doesn't say one.
 const NUMBER_LIMIT: u64 = MAX_MESSAGE_NUMBER + 1;
 
-/// The address of an exchange; or what a simulated one fills of each order, which is all of it where the file doesn't
-/// say.
+/// The exchange of a place: what a simulated one fills of each order is all of it where the file doesn't say.
 #[tactic(auto, unfolding(crate::specs::Venue::endpoint_in))]
-fn endpoint_in(table: &Value) -> Result<Endpoint, Fault>
-    ensures { result ≡ endpoint_in (view table.now) }
+fn endpoint_in(place: Where, table: &Value) -> Result<Endpoint, Fault>
+    ensures { result ≡ endpoint_in place (view table.now) }
 {
-    let place: Where = needed(table, Key::Address)?;
     let fill: Option<FillShares> = value_at(table, Key::Fill)?;
     match (place, fill) {
         (Where::At(address), None) => Ok(Endpoint::At(address)),
@@ -82,19 +82,25 @@ pub(crate) fn venue_in(desk: &Option<CompId>, table: &Value) -> Result<Venue, Fa
 {
     checked(table, Keys::Venue)?;
     let name = needed(table, Key::Name)?;
-    let endpoint = endpoint_in(table)?;
+    let Dialled { place, backups } = dialled_in(table)?;
+    let endpoint = endpoint_in(place, table)?;
     let target = needed(table, Key::Target)?;
     let sender = sender_in(desk, table)?;
     let words = words_in(table)?;
+    let dress = dress_in(&words, table)?;
+    let password_file = value_at(table, Key::PasswordFile)?;
     let session = session_in(table)?;
     let limits = leg_limits_in(table)?;
     Ok(Venue {
         name,
         endpoint,
+        backups,
         target,
         sender,
         session,
         words,
+        dress,
+        password_file,
         limits,
     })
 }

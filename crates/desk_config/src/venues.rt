@@ -2,9 +2,12 @@
 
 ghost use Rattle.std.specs.Prelude.{◌≡◌, ◌<◌, ◌≤◌, [], length, position, IfOk, IfSome};
 ghost use Rattle.desk_config.specs.Apart.{AreVenues};
-ghost use Rattle.desk_config.specs.Venues.{AnswersVenues, apart, next_venue, same_address, same_name, same_session, named, result_map, venue_items, venues_from, venues_of};
+ghost use Rattle.desk_config.specs.Venues.{AnswersVenues, apart, is_among, is_backup, is_dialled_at, is_first};
+ghost use Rattle.desk_config.specs.Venues.{same_address, same_name, same_session, share_address, shares_any};
+ghost use Rattle.desk_config.specs.Venues.{named, next_venue, result_map, shares_backup, shares_first, venue_items, venues_from, venues_of};
 ghost use Rattle.toml.specs.View.{view, array_view};
 
+use crate::address::Address;
 use crate::endpoint::Endpoint;
 use crate::fault::{ConfigFault, Fault, KeyFault};
 use crate::found::Found;
@@ -22,15 +25,74 @@ use toml::value::Array;
 /// The most venues.
 const MAX_VENUES: usize = 16;
 
-fn same_address(one: &Endpoint, other: &Endpoint) -> bool
+fn same_address(one: &Address, other: &Address) -> bool
     ensures { result ≡ same_address one.now other.now }
 {
-    match (one, other) {
-        (Endpoint::At(one), Endpoint::At(other)) => {
-            one.host.as_bytes() == other.host.as_bytes() && one.port.get() == other.port.get()
-        }
-        _ => false,
+    one.host.as_bytes() == other.host.as_bytes() && one.port.get() == other.port.get()
+}
+
+fn is_backup(address: &Address, backup: &Option<Address>) -> bool
+    ensures { result ≡ is_backup address.now backup.now }
+{
+    match backup {
+        Some(backup) => same_address(address, backup),
+        None => false,
     }
+}
+
+fn is_first(address: &Address, endpoint: &Endpoint) -> bool
+    ensures { result ≡ is_first address.now endpoint.now }
+{
+    match endpoint {
+        Endpoint::At(first) => same_address(address, first),
+        Endpoint::Simulated(_) => false,
+    }
+}
+
+fn is_among(address: &Address, backups: &[Option<Address>]) -> bool
+    ensures { result ≡ is_among address.now backups.now }
+{
+    backups.iter().any(|backup| is_backup(address, backup))
+}
+
+/// Whether a venue is dialled at an address, first or as one of its backups.
+fn is_dialled_at(address: &Address, venue: &Venue) -> bool
+    ensures { result ≡ is_dialled_at address.now venue.now }
+{
+    is_first(address, &venue.endpoint) || is_among(address, venue.backups.as_slice())
+}
+
+/// Whether a venue's first address is one of another's.
+fn shares_first(one: &Venue, other: &Venue) -> bool
+    ensures { result ≡ shares_first one.now other.now }
+{
+    match &one.endpoint {
+        Endpoint::At(address) => is_dialled_at(address, other),
+        Endpoint::Simulated(_) => false,
+    }
+}
+
+fn shares_backup(other: &Venue, backup: &Option<Address>) -> bool
+    ensures { result ≡ shares_backup other.now backup.now }
+{
+    match backup {
+        Some(address) => is_dialled_at(address, other),
+        None => false,
+    }
+}
+
+fn shares_any(other: &Venue, backups: &[Option<Address>]) -> bool
+    ensures { result ≡ shares_any other.now backups.now }
+{
+    backups.iter().any(|backup| shares_backup(other, backup))
+}
+
+/// Whether two venues have an address in common.
+#[tactic(auto, unfolding(crate::specs::Venues::share_address))]
+fn share_address(one: &Venue, other: &Venue) -> bool
+    ensures { result ≡ share_address one.now other.now }
+{
+    shares_first(one, other) || shares_any(other, one.backups.as_slice())
 }
 
 /// Whether two venues have the same name.
@@ -40,11 +102,11 @@ fn same_name(one: &Venue, other: &Venue) -> bool
     one.name.as_bytes() == other.name.as_bytes()
 }
 
-/// Whether two venues would be one session: the same address and comp ids.
+/// Whether two venues could be one session: an address in common, and the same comp ids.
 fn same_session(one: &Venue, other: &Venue) -> bool
     ensures { result ≡ same_session one.now other.now }
 {
-    same_address(&one.endpoint, &other.endpoint)
+    share_address(one, other)
         && one.target.as_bytes() == other.target.as_bytes()
         && one.sender.as_bytes() == other.sender.as_bytes()
 }

@@ -3,3 +3,4 @@ mod Places
 mod Rising
 mod Copied
 mod Known
+pub mod LastRefusals

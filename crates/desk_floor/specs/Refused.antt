@@ -40,3 +40,7 @@ room_made most last = if nat_le most (length last) then drop 1 last else last
 -- one more is kept, where there is memory
 abbrev pub KeepsLast : ℕ → Option Refusal → List (Option Refusal) → List (Option Refusal) → Type 0
 KeepsLast most refusal old new = (new ≡ room_made most old ++ refusal ∷ []) ⊎ (new ≡ room_made most old)
+
+-- the last so many of them
+abbrev pub last_of : ℕ → List (Option Refusal) → List (Option Refusal)
+last_of count refusals = drop (length refusals - count) refusals

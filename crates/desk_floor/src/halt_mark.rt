@@ -1,13 +1,16 @@
 //! What outlives the process of a desk that is halted.
 
 use std::fs::{File, Files, OpenOptions};
-use std::io;
-use std::os::unix::fs::{FileExt, OpenOptionsExt};
+use std::io::{self, ErrorKind};
+use std::os::unix::fs::{FileExt, MetadataExt, OpenOptionsExt};
+use std::sync::Mutex;
 
 /// A file beside the day's journals, which isn't empty while the desk is halted.
 #[derive(Drop)]
 pub struct HaltMark {
     file: File,
+    /// Whoever sets or clears it holds this meanwhile.
+    pub(crate) turn: Mutex<()>,
 }
 
 impl HaltMark {
@@ -17,6 +20,7 @@ impl HaltMark {
         options.write(true).create(true).mode(0o600);
         Ok(HaltMark {
             file: options.open(rt, path)?,
+            turn: Mutex::new(()),
         })
     }
 
@@ -25,10 +29,14 @@ impl HaltMark {
         Ok(self.file.metadata()?.len() > 0)
     }
 
-    /// From now on a desk that is started again is halted.
+    /// From now on a desk that is started again is halted. Refused where the file was removed, so that it finds none.
     pub(crate) fn set(&self) -> io::Result<()> {
         self.file.write_all_at(b"halted\n", 0)?;
-        self.file.sync_all()
+        self.file.sync_all()?;
+        if self.file.metadata()?.nlink() == 0 {
+            return Err(io::Error::from(ErrorKind::NotFound));
+        }
+        Ok(())
     }
 
     /// From now on it isn't.

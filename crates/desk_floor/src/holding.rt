@@ -50,10 +50,7 @@ impl<L: Run, M: Accounts, W: Write + Drop, J: Telling> Floor<L, M, W, J> {
     pub fn halt<R: Wait + Clock>(&self, rt: &R) -> Stopped {
         self.halt_desk(rt);
         self.tell_held();
-        let is_kept = match &self.halt_mark {
-            Some(mark) => mark.set().is_ok(),
-            None => true,
-        };
+        let is_kept = self.keep_held(rt);
         Stopped {
             sending: self.await_stop(rt),
             is_kept,
@@ -73,10 +70,22 @@ impl<L: Run, M: Accounts, W: Write + Drop, J: Telling> Floor<L, M, W, J> {
     pub fn resume(&self, rt: &impl Wait) -> bool {
         self.lock.resume(rt);
         self.tell_held();
-        match &self.halt_mark {
-            Some(mark) => mark.clear().is_ok(),
-            None => true,
-        }
+        self.keep_held(rt)
+    }
+
+    /// Has a desk that is started again halted if this one is, and says whether that is kept. Where a halt and a
+    /// resume come at once, the last of them keeps what the desk is by then.
+    fn keep_held(&self, rt: &impl Wait) -> bool {
+        let Some(mark) = &self.halt_mark else {
+            return true;
+        };
+        let _turn = mark.turn.lock(rt);
+        let kept = if self.lock.is_halted() {
+            mark.set()
+        } else {
+            mark.clear()
+        };
+        kept.is_ok()
     }
 
     /// Pauses a venue, as `halt` does the desk. A desk that is started again doesn't know of it.

@@ -1,6 +1,6 @@
 //! The sweeps that were placed under references.
 
-ghost use Rattle.std.specs.Prelude.{◌≡◌, ◌≤◌, ◌+◌, ◌⊎◌, None, IfOk, MatchResult, OnOk, option_map};
+ghost use Rattle.std.specs.Prelude.{◌≡◌, ◌≤◌, ◌+◌, ◌⊎◌, [], None, IfOk, MatchResult, OnOk, option_map};
 ghost use Rattle.sweep_refs.specs.Placed.{AreDistinct, placed_under};
 ghost use Rattle.desk_floor.specs.Release.{AnswersKnown, AnswersOnce, IsReleased, noted, noted_again};
 ghost use Rattle.desk_floor.specs.Release.{placed_after, placed_shares};
@@ -49,7 +49,9 @@ fn copy_of(alloc: Global, legs: &[Routed]) -> Result<Legs, AllocError>
 
 impl Refs {
     /// None yet.
-    pub fn new(alloc: Global) -> Refs {
+    pub fn new(alloc: Global) -> Refs
+        ensures { result.book.placed ≡ [] }
+    {
         Refs {
             alloc,
             book: RefBook::new(alloc),

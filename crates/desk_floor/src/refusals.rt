@@ -1,8 +1,8 @@
 //! The sweeps that were refused.
 
-ghost use Rattle.std.specs.Prelude.{◌≡◌, IfOk};
+ghost use Rattle.std.specs.Prelude.{◌≡◌, ◌-◌, IfOk};
 ghost use Rattle.std.specs.Option.{option_map};
-ghost use Rattle.desk_floor.specs.Refused.{KeepsLast, counted, counted_over, raised};
+ghost use Rattle.desk_floor.specs.Refused.{KeepsLast, counted, counted_over, last_of, raised};
 
 use desk_answers::{Answer, Refusal};
 use desk_words::VenueName;
@@ -170,17 +170,18 @@ impl Kept {
         let _ = self.last.push_back(refusal.map(copy_of));
     }
 
-    /// What was refused since so many were.
+    /// What was refused since so many were, as far as it is kept.
+    #[tactic(auto, using(crate::proofs::LastRefusals::to_the_end))]
     fn since(&self, alloc: Global, number: u64) -> Result<RefusedSince, AllocError>
-        ensures { IfOk result (λ since. since.number ≡ self.now.number) }
+        ensures number { IfOk result (λ since. since.number ≡ self.now.number) }
+        ensures last { IfOk result (λ since. since.refusals.items
+            ≡ last_of (self.now.number - number) self.now.last.items) }
     {
         let new = self.number.saturating_sub(number);
-        let skipped = (self.last.len() as u64).saturating_sub(new);
+        let skipped = (self.last.len() as u64).saturating_sub(new) as usize;
         let mut refusals = Vec::new(alloc);
-        for (place, refusal) in self.last.iter().enumerate() {
-            if place as u64 >= skipped {
-                refusals.push(refusal.as_ref().map(copy_of))?;
-            }
+        for refusal in self.last.range(skipped..) {
+            refusals.push(refusal.as_ref().map(copy_of))?;
         }
         Ok(RefusedSince {
             number: self.number,

@@ -1,2 +1,5 @@
-pub mod Same
+pub mod Fields
+pub mod Rightful
+pub mod Steps
+pub mod UserFound
 pub mod VenuesWritten

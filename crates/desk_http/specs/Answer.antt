@@ -1,5 +1,5 @@
 -- What a call is answered, over what the day says.
-use Rattle.std.specs.Prelude.{◌≡◌, ◌⊎◌, ℕ, ◌==◌, List, drop, length, Option, Some, None, Result, Ok, Err, codes, if◌then◌else◌}
+use Rattle.std.specs.Prelude.{◌≡◌, ◌⊎◌, ℕ, ◌==◌, Bool, List, drop, length, Option, Some, None, Result, Ok, Err, codes, if◌then◌else◌}
 use Rattle.std.specs.Str.{bytes_eq}
 use Rattle.percent_encoding.specs.Percent.{percent_decode}
 use Rattle.sweep_refs.specs.Ref.{ref_of}
@@ -21,15 +21,18 @@ use Rattle.desk_json.specs.Sweep.{BodySays}
 use Rattle.desk_json.specs.Sweeps.{sweeps_json}
 use Rattle.desk_json.specs.Venues.{venues_json}
 use Rattle.desk_http.specs.declared.day_sums.DaySums.{DaySums}
+use Rattle.desk_http.specs.declared.process_use.ProcessUse.{ProcessUse}
 use Rattle.desk_http.specs.declared.refusal_counts.RefusalCounts.{RefusalCounts}
 use Rattle.desk_http.specs.declared.reply.Kind.TheVariants.{Json, Metrics}
 use Rattle.desk_http.specs.declared.reply.Reply.{Reply}
 use Rattle.desk_http.specs.declared.run.Run.{Run}
 use Rattle.desk_http.specs.declared.status.Status.{Status}
+use Rattle.desk_http.specs.declared.stopped.Stopped.{Stopped}
 use Rattle.desk_http.specs.declared.status.Status.TheVariants as status
 use Rattle.desk_http.specs.Metrics.{metrics_text}
 use Rattle.desk_http.specs.Parts.{parts_at}
 use Rattle.desk_http.specs.Reply.{IsReply}
+use Rattle.desk_http.specs.Stopped.{resumed_json, stopped_json}
 
 -- 201 where a sweep was placed, 200 where it was placed before, 409 where it was refused
 abbrev pub outcome_status : Outcome → Status
@@ -38,11 +41,11 @@ outcome_status (outcome.Again sweep shares) = status.Ok
 outcome_status (outcome.Refused refusal) = status.Conflict
 outcome_status outcome.Closing = status.Conflict
 
--- the sweep was handed in, and the answer is what became of it
-pub record Placed {S : Type 0} (places : S → Submission → Outcome → S → Type 0) (old : S) (submission : Submission)
-    (reply : Reply) (new : S) : Type 0 where
+-- the sweep was handed in by this user, and the answer is what became of it
+pub record Placed {S : Type 0} (places : S → Submission → Option ℕ → Outcome → S → Type 0) (old : S)
+    (submission : Submission) (by : Option ℕ) (reply : Reply) (new : S) : Type 0 where
   pub said : Outcome
-  pub by_the_day : places old submission said new
+  pub by_the_day : places old submission by said new
   pub answer : IsReply reply (outcome_status said) Json (outcome_json said)
 
 -- the key of a head, read: none where the head has none
@@ -67,12 +70,12 @@ pub record Asks (names : List (List ℕ)) (body key : List ℕ) (asked : Result 
   pub read : BodySays names body in_body
   pub asked_is : asked ≡ and_then in_body (keyed key)
 
--- they ask for a sweep, which was handed in
-pub record HandedIn {S : Type 0} (names : List (List ℕ)) (places : S → Submission → Outcome → S → Type 0)
-    (body key : List ℕ) (old : S) (reply : Reply) (new : S) : Type 0 where
+-- they ask for a sweep, which was handed in by this user
+pub record HandedIn {S : Type 0} (names : List (List ℕ)) (places : S → Submission → Option ℕ → Outcome → S → Type 0)
+    (body key : List ℕ) (by : Option ℕ) (old : S) (reply : Reply) (new : S) : Type 0 where
   pub submission : Submission
   pub asks : Asks names body key (Ok submission)
-  pub placed : Placed places old submission reply new
+  pub placed : Placed places old submission by reply new
 
 -- they have a fault, the day was asked nothing, and the answer is the fault
 pub record NoSweep {S : Type 0} (names : List (List ℕ)) (body key : List ℕ) (old : S) (reply : Reply) (new : S)
@@ -82,11 +85,11 @@ pub record NoSweep {S : Type 0} (names : List (List ℕ)) (body key : List ℕ) 
   pub unasked : new ≡ old
   pub answer : IsReply reply status.BadRequest Json (body_fault_json fault)
 
--- a body is handed in under the key of its head, or one of them has a fault
-abbrev pub Handles : {S : Type 0} → List (List ℕ) → (S → Submission → Outcome → S → Type 0) → List ℕ → List ℕ → S
-    → Reply → S → Type 0
-Handles names places body key old reply new =
-    HandedIn names places body key old reply new ⊎ NoSweep names body key old reply new
+-- a body is handed in by this user under the key of its head, or one of them has a fault
+abbrev pub Handles : {S : Type 0} → List (List ℕ) → (S → Submission → Option ℕ → Outcome → S → Type 0) → List ℕ
+    → List ℕ → Option ℕ → S → Reply → S → Type 0
+Handles names places body key by old reply new =
+    HandedIn names places body key by old reply new ⊎ NoSweep names body key old reply new
 
 -- the answer is the page of sweeps that the day said
 pub record ShowsSweeps {S : Type 0} (pages : S → ℕ → ℕ → SweepsPage → S → Type 0) (after most : ℕ) (old : S)
@@ -136,15 +139,30 @@ pub record ShowsVenues {S : Type 0} (lists : S → List VenueRow → S → Type 
   pub by_the_day : lists old said new
   pub answer : IsReply reply status.Ok Json (venues_json said)
 
--- the day was closed, and that is the answer
-pub record Closes {S : Type 0} (closes : S → S → Type 0) (old : S) (reply : Reply) (new : S) : Type 0 where
-  pub by_the_day : closes old new
+-- the day was closed by this user, and that is the answer
+pub record Closes {S : Type 0} (closes : S → Option ℕ → S → Type 0) (by : Option ℕ) (old : S) (reply : Reply) (new : S)
+    : Type 0 where
+  pub by_the_day : closes old by new
   pub answer : IsReply reply status.Accepted Json (codes "{\"closing\":true}")
 
--- the answer is the metrics of this run and of what the day said: of its venues, and then of its sums and of what it
--- refused
+-- the desk was halted by this user, and the answer is what came of it; the same of a resume
+pub record Halts {S : Type 0} (halts : S → Option ℕ → Stopped → S → Type 0) (by : Option ℕ) (old : S) (reply : Reply)
+    (new : S) : Type 0 where
+  pub came : Stopped
+  pub by_the_day : halts old by came new
+  pub answer : IsReply reply status.Ok Json (stopped_json came)
+
+pub record Resumes {S : Type 0} (resumes : S → Option ℕ → Bool → S → Type 0) (by : Option ℕ) (old : S) (reply : Reply)
+    (new : S) : Type 0 where
+  pub is_kept : Bool
+  pub by_the_day : resumes old by is_kept new
+  pub answer : IsReply reply status.Ok Json (resumed_json is_kept)
+
+-- the answer is the metrics of this run and of what the day said: of its venues, and then of its sums, of what it
+-- refused, of the wrong tokens that came, and of what the process uses
 pub record ShowsMetrics {S : Type 0} (lists : S → List VenueRow → S → Type 0) (sums_up : S → DaySums → S → Type 0)
-    (refuses : S → RefusalCounts → Type 0) (run : Run) (old : S) (reply : Reply) (new : S) : Type 0 where
+    (refuses : S → RefusalCounts → Type 0) (guesses : S → ℕ → Type 0) (uses : S → Option ProcessUse → Type 0)
+    (run : Run) (old : S) (reply : Reply) (new : S) : Type 0 where
   pub venues : List VenueRow
   pub meanwhile : S
   pub venues_by_the_day : lists old venues meanwhile
@@ -152,4 +170,8 @@ pub record ShowsMetrics {S : Type 0} (lists : S → List VenueRow → S → Type
   pub sums_by_the_day : sums_up meanwhile sums new
   pub refusals : RefusalCounts
   pub refusals_by_the_day : refuses new refusals
-  pub answer : IsReply reply status.Ok Metrics (metrics_text run sums refusals venues)
+  pub wrong_tokens : ℕ
+  pub guesses_by_the_day : guesses new wrong_tokens
+  pub used : Option ProcessUse
+  pub uses_by_the_day : uses new used
+  pub answer : IsReply reply status.Ok Metrics (metrics_text run used sums refusals wrong_tokens venues)

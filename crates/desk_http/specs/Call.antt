@@ -30,8 +30,10 @@ place_of path =
     else (if bytes_eq path (codes "/api/venues") then Some place.Venues
     else (if bytes_eq path (codes "/api/events") then Some place.Events
     else (if bytes_eq path (codes "/api/close") then Some place.Close
+    else (if bytes_eq path (codes "/api/halt") then Some place.Halt
+    else (if bytes_eq path (codes "/api/resume") then Some place.Resume
     else (if bytes_eq path (codes "/metrics") then Some place.Metrics
-    else sweep_place path))))))
+    else sweep_place path))))))))
 
 -- the sweeps of a window
 abbrev pub window_call : Option Window → Result Call Refused
@@ -77,9 +79,11 @@ call_at place.Executions method query = executions_call method query
 call_at place.Venues method query = by_get method call.Venues
 call_at place.Events method query = by_get method call.Events
 call_at place.Close method query = by_post method call.Close
+call_at place.Halt method query = by_post method call.Halt
+call_at place.Resume method query = by_post method call.Resume
 call_at place.Metrics method query = by_get method call.Metrics
 
--- whether a call hands in or closes
+-- whether a call hands in, closes or halts
 abbrev pub changes_the_day : Call → Bool
 changes_the_day call.Page = false
 changes_the_day call.Place = true
@@ -90,4 +94,6 @@ changes_the_day (call.Executions after most) = false
 changes_the_day call.Venues = false
 changes_the_day call.Events = false
 changes_the_day call.Close = true
+changes_the_day call.Halt = true
+changes_the_day call.Resume = true
 changes_the_day call.Metrics = false

@@ -1,6 +1,8 @@
 pub mod Parts
 pub mod Window
 pub mod Call
+pub mod User
+pub mod Guesses
 pub mod Door
 pub mod Status
 pub mod Refused
@@ -10,3 +12,5 @@ pub mod MetricText
 pub mod VenueMetric
 pub mod Metrics
 pub mod Following
+pub mod Reading
+pub mod Stopped

@@ -1,8 +1,9 @@
 -- The day as Prometheus' text (its exposition format 0.0.4): what a metric is and its type, and then all its samples.
-use Rattle.std.specs.Prelude.{ℕ, List, ◌++◌, codes, decimal}
+use Rattle.std.specs.Prelude.{ℕ, List, [], ◌++◌, Option, Some, None, codes, decimal}
 use Rattle.leg.specs.declared.totals.Totals.{Totals}
 use Rattle.desk_json.specs.declared.standing.VenueRow.{VenueRow}
 use Rattle.desk_http.specs.declared.day_sums.DaySums.{DaySums}
+use Rattle.desk_http.specs.declared.process_use.ProcessUse.{ProcessUse}
 use Rattle.desk_http.specs.declared.refusal_counts.RefusalCounts.{RefusalCounts}
 use Rattle.desk_http.specs.declared.run.Run.{Run}
 use Rattle.desk_http.specs.MetricText.{metric_head, seconds_text}
@@ -24,6 +25,32 @@ begun_text micros =
     metric_head (codes "process_start_time_seconds")
     (codes "When the program began to serve, in seconds since 1970-01-01 UTC.") (codes "gauge")
     ++ codes "process_start_time_seconds " ++ seconds_text micros ++ codes "\n"
+
+-- the processor time of the program so far, in microseconds
+unfoldable pub cpu_text : ℕ → List ℕ
+cpu_text micros =
+    metric_head (codes "process_cpu_seconds_total") (codes "Processor time of the program so far, in seconds.")
+    (codes "counter")
+    ++ codes "process_cpu_seconds_total " ++ seconds_text micros ++ codes "\n"
+
+-- its resident memory, in bytes
+unfoldable pub resident_text : ℕ → List ℕ
+resident_text bytes =
+    metric_head (codes "process_resident_memory_bytes") (codes "Resident memory of the program, in bytes.")
+    (codes "gauge")
+    ++ sample (codes "process_resident_memory_bytes") bytes
+
+-- all memory that it has mapped, in bytes
+unfoldable pub mapped_text : ℕ → List ℕ
+mapped_text bytes =
+    metric_head (codes "process_virtual_memory_bytes") (codes "Memory that the program has mapped, in bytes.")
+    (codes "gauge")
+    ++ sample (codes "process_virtual_memory_bytes") bytes
+
+-- what the process uses, if the system says it
+abbrev pub use_text : Option ProcessUse → List ℕ
+use_text None = []
+use_text (Some used) = cpu_text used.cpu ++ resident_text used.resident ++ mapped_text used.mapped
 
 -- how many sweeps were placed
 unfoldable pub sweeps_text : ℕ → List ℕ
@@ -82,9 +109,16 @@ parts_text parts =
     ++ sample (codes "dispatch_shares{part=\"withdrawn\"}") parts.withdrawn
     ++ sample (codes "dispatch_shares{part=\"open\"}") parts.still_open
 
--- the program's version, when it began to serve, the day's sweeps, those that were refused, the day's shares, and what
--- is told of each venue
-unfoldable pub metrics_text : Run → DaySums → RefusalCounts → List VenueRow → List ℕ
-metrics_text run sums refusals venues =
-    build_text ++ begun_text run.begun ++ sweeps_text sums.sweeps ++ refusals_text refusals ++ placed_text sums.placed
-    ++ parts_text sums.parts ++ venues_text venues
+-- how many wrong tokens came
+unfoldable pub wrong_tokens_text : ℕ → List ℕ
+wrong_tokens_text count =
+    metric_head (codes "dispatch_wrong_tokens_total") (codes "Requests with a token that is nobody's.")
+    (codes "counter")
+    ++ sample (codes "dispatch_wrong_tokens_total") count
+
+-- the program's version, when it began to serve, what it uses, the day's sweeps, those that were refused, the day's
+-- shares, the wrong tokens, and what is told of each venue
+unfoldable pub metrics_text : Run → Option ProcessUse → DaySums → RefusalCounts → ℕ → List VenueRow → List ℕ
+metrics_text run used sums refusals wrong_tokens venues =
+    build_text ++ begun_text run.begun ++ use_text used ++ sweeps_text sums.sweeps ++ refusals_text refusals
+    ++ placed_text sums.placed ++ parts_text sums.parts ++ wrong_tokens_text wrong_tokens ++ venues_text venues

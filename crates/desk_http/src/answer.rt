@@ -2,11 +2,12 @@
 
 ghost use Rattle.std.specs.Prelude.{◌≡◌, ◌≤◌, ℕ, None, IfOk, codes, drop, length};
 ghost use Rattle.desk_json.specs.FaultJson.{said_json};
-ghost use Rattle.desk_http.specs.Answer.{Asks, Closes, Finds, Handles, Placed, ShowsExecutions, ShowsFound, ShowsLegs};
+ghost use Rattle.desk_http.specs.Answer.{Asks, Closes, Finds, Halts, Handles, Placed, Resumes, ShowsExecutions, ShowsFound, ShowsLegs};
 ghost use Rattle.desk_http.specs.Answer.{ShowsMetrics, ShowsSweeps, ShowsVenues, key_in, keyed, one_of, outcome_status, ref_asked};
 ghost use Rattle.desk_http.specs.Answer.{IsLegs};
 ghost use Rattle.desk_http.specs.Reply.{IsReply};
 
+use crate::admitted::Admitted;
 use crate::call::Call;
 use crate::day::Day;
 use crate::metrics::metrics_text;
@@ -15,6 +16,7 @@ use crate::reply::{Kind, Reply, json_reply};
 use crate::request::Request;
 use crate::run::Run;
 use crate::status::Status;
+use crate::stopped::{resumed_json, stopped_json};
 use desk_json::{
     BodyFault, Outcome, body_fault_json, executions_json, legs_json, outcome_json, read_sweep,
     said_json, sweeps_json, venues_json,
@@ -36,15 +38,16 @@ fn outcome_status(outcome: &Outcome) -> Status
     }
 }
 
-/// Hands a sweep in, and says what became of it.
+/// Hands a sweep in by a user, and says what became of it.
 fn placed_reply<D: Day>(
     alloc: Global,
     day: &mut D,
     submission: Submission,
+    by: Option<usize>,
 ) -> Result<Reply, AllocError>
-    ensures { IfOk result (λ reply. Placed D.places day.old submission reply day.new) }
+    ensures { IfOk result (λ reply. Placed D.places day.old submission by reply day.new) }
 {
-    let outcome = day.place(submission);
+    let outcome = day.place(submission, by);
     let body = outcome_json(alloc, &outcome)?;
     Ok(json_reply(outcome_status(&outcome), body))
 }
@@ -104,18 +107,19 @@ fn asked(
     }
 }
 
-/// Hands in the sweep of a body, under the key of its head, or says why it is none.
+/// Hands in the sweep of a body by a user, under the key of its head, or says why it is none.
 fn place_reply<D: Day>(
     alloc: Global,
     day: &mut D,
     body: &[u8],
     key: &[u8],
+    by: Option<usize>,
 ) -> Result<Reply, AllocError>
     ensures { IfOk result (λ reply.
-        Handles (D.venue_names day.old) D.places body.now key.now day.old reply day.new) }
+        Handles (D.venue_names day.old) D.places body.now key.now by day.old reply day.new) }
 {
     match asked(alloc, day.names(), body, key)? {
-        Ok(submission) => placed_reply(alloc, day, submission),
+        Ok(submission) => placed_reply(alloc, day, submission, by),
         Err(fault) => {
             let body = body_fault_json(alloc, &fault)?;
             Ok(json_reply(Status::BadRequest, body))
@@ -231,12 +235,28 @@ fn venues_reply<D: Day>(alloc: Global, day: &mut D) -> Result<Reply, AllocError>
     Ok(json_reply(Status::Ok, body))
 }
 
-fn close_reply<D: Day>(alloc: Global, day: &mut D) -> Result<Reply, AllocError>
-    ensures { IfOk result (λ reply. Closes D.closes day.old reply day.new) }
+fn close_reply<D: Day>(alloc: Global, day: &mut D, by: Option<usize>) -> Result<Reply, AllocError>
+    ensures { IfOk result (λ reply. Closes D.closes by day.old reply day.new) }
 {
     let body = String::from_str(alloc, "{\"closing\":true}")?;
-    day.close();
+    day.close(by);
     Ok(json_reply(Status::Accepted, body))
+}
+
+fn halt_reply<D: Day>(alloc: Global, day: &mut D, by: Option<usize>) -> Result<Reply, AllocError>
+    ensures { IfOk result (λ reply. Halts D.halts by day.old reply day.new) }
+{
+    let stopped = day.halt(by);
+    let body = stopped_json(alloc, stopped)?;
+    Ok(json_reply(Status::Ok, body))
+}
+
+fn resume_reply<D: Day>(alloc: Global, day: &mut D, by: Option<usize>) -> Result<Reply, AllocError>
+    ensures { IfOk result (λ reply. Resumes D.resumes by day.old reply day.new) }
+{
+    let is_kept = day.resume(by);
+    let body = resumed_json(alloc, is_kept)?;
+    Ok(json_reply(Status::Ok, body))
 }
 
 fn page_reply(alloc: Global, page: &str) -> Result<Reply, AllocError>
@@ -250,12 +270,23 @@ fn page_reply(alloc: Global, page: &str) -> Result<Reply, AllocError>
 }
 
 fn metrics_reply<D: Day>(alloc: Global, day: &mut D, run: &Run) -> Result<Reply, AllocError>
-    ensures { IfOk result (λ reply. ShowsMetrics D.lists D.sums_up D.refuses run.now day.old reply day.new) }
+    ensures { IfOk result (λ reply.
+        ShowsMetrics D.lists D.sums_up D.refuses D.guesses D.uses run.now day.old reply day.new) }
 {
     let rows = day.venues()?;
     let sums = day.sums()?;
     let refusals = day.refusals();
-    let body = metrics_text(alloc, run, &sums, &refusals, rows.as_slice())?;
+    let wrong_tokens = day.wrong_tokens();
+    let used = day.process_use();
+    let body = metrics_text(
+        alloc,
+        run,
+        used,
+        &sums,
+        &refusals,
+        wrong_tokens,
+        rows.as_slice(),
+    )?;
     Ok(Reply {
         status: Status::Ok,
         kind: Kind::Metrics,
@@ -263,47 +294,55 @@ fn metrics_reply<D: Day>(alloc: Global, day: &mut D, run: &Run) -> Result<Reply,
     })
 }
 
-fn busy_reply(alloc: Global) -> Result<Reply, AllocError>
+pub(crate) fn busy_reply(alloc: Global) -> Result<Reply, AllocError>
     ensures { IfOk result (λ reply. IsReply reply Status.Unavailable Kind.Json (said_json (codes "too many streams"))) }
 {
     let body = said_json(alloc, "too many streams")?;
     Ok(json_reply(Status::Unavailable, body))
 }
 
-/// What a call is answered. The only refusal is out of memory, before the day was asked or behind it.
+/// What a call that may be carried out is answered. The only refusal is out of memory, before the day was asked or
+/// behind it.
 pub(crate) fn answer<D: Day>(
     alloc: Global,
     day: &mut D,
     page: &str,
     run: &Run,
-    call: Call,
+    admitted: Admitted,
     request: &Request,
 ) -> Result<Reply, AllocError>
-    ensures page { call ≡ Call.Page
+    ensures page { admitted.call ≡ Call.Page
         → IfOk result (λ reply. IsReply reply Status.Ok Kind.Page page.now × (day.new ≡ day.old)) }
-    ensures place { call ≡ Call.Place
+    ensures place { admitted.call ≡ Call.Place
         → IfOk result (λ reply. Handles (D.venue_names day.old) D.places request.now.body.items
-        request.now.idempotency_key.items day.old reply day.new) }
-    ensures sweeps { (after most : ℕ) → call ≡ Call.Sweeps after most
+        request.now.idempotency_key.items admitted.by day.old reply day.new) }
+    ensures sweeps { (after most : ℕ) → admitted.call ≡ Call.Sweeps after most
         → IfOk result (λ reply. ShowsSweeps D.pages after most day.old reply day.new) }
-    ensures sweep { (number : ℕ) → call ≡ Call.Sweep number
+    ensures sweep { (number : ℕ) → admitted.call ≡ Call.Sweep number
         → IfOk result (λ reply. ShowsLegs D.shows number day.old reply day.new) }
-    ensures find { call ≡ Call.Find → IfOk result (λ reply.
+    ensures find { admitted.call ≡ Call.Find → IfOk result (λ reply.
         Finds D.finds D.shows (ref_asked request.now.target.items) day.old reply day.new) }
-    ensures executions { (after most : ℕ) → call ≡ Call.Executions after most
+    ensures executions { (after most : ℕ) → admitted.call ≡ Call.Executions after most
         → IfOk result (λ reply. ShowsExecutions D.reports after most day.old reply day.new) }
-    ensures venues { call ≡ Call.Venues → IfOk result (λ reply. ShowsVenues D.lists day.old reply day.new) }
-    ensures events { call ≡ Call.Events → IfOk result (λ reply.
+    ensures venues { admitted.call ≡ Call.Venues → IfOk result (λ reply. ShowsVenues D.lists day.old reply day.new) }
+    ensures events { admitted.call ≡ Call.Events → IfOk result (λ reply.
         IsReply reply Status.Unavailable Kind.Json (said_json (codes "too many streams")) × (day.new ≡ day.old)) }
-    ensures close { call ≡ Call.Close → IfOk result (λ reply. Closes D.closes day.old reply day.new) }
-    ensures metrics { call ≡ Call.Metrics
-        → IfOk result (λ reply. ShowsMetrics D.lists D.sums_up D.refuses run.now day.old reply day.new) }
+    ensures close { admitted.call ≡ Call.Close → IfOk result (λ reply.
+        Closes D.closes admitted.by day.old reply day.new) }
+    ensures halt { admitted.call ≡ Call.Halt → IfOk result (λ reply.
+        Halts D.halts admitted.by day.old reply day.new) }
+    ensures resume { admitted.call ≡ Call.Resume → IfOk result (λ reply.
+        Resumes D.resumes admitted.by day.old reply day.new) }
+    ensures metrics { admitted.call ≡ Call.Metrics
+        → IfOk result (λ reply.
+        ShowsMetrics D.lists D.sums_up D.refuses D.guesses D.uses run.now day.old reply day.new) }
 {
+    let Admitted { call, by } = admitted;
     match call {
         Call::Page => page_reply(alloc, page),
         Call::Place => {
             let key = request.idempotency_key.as_slice();
-            place_reply(alloc, day, request.body.as_slice(), key)
+            place_reply(alloc, day, request.body.as_slice(), key, by)
         }
         Call::Sweeps { after, most } => sweeps_reply(alloc, day, after, most),
         Call::Sweep(number) => sweep_reply(alloc, day, number),
@@ -311,7 +350,9 @@ pub(crate) fn answer<D: Day>(
         Call::Executions { after, most } => executions_reply(alloc, day, after, most),
         Call::Venues => venues_reply(alloc, day),
         Call::Events => busy_reply(alloc),
-        Call::Close => close_reply(alloc, day),
+        Call::Close => close_reply(alloc, day, by),
+        Call::Halt => halt_reply(alloc, day, by),
+        Call::Resume => resume_reply(alloc, day, by),
         Call::Metrics => metrics_reply(alloc, day, run),
     }
 }

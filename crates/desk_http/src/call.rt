@@ -21,6 +21,8 @@ pub(crate) enum Place {
     Venues,
     Events,
     Close,
+    Halt,
+    Resume,
     Metrics,
 }
 
@@ -41,6 +43,10 @@ pub enum Call {
     Venues,
     Events,
     Close,
+    /// The desk is halted.
+    Halt,
+    /// It isn't halted any more.
+    Resume,
     Metrics,
 }
 
@@ -65,6 +71,12 @@ pub(crate) fn place_of(path: &[u8]) -> Option<Place>
     }
     if path == b"/api/close".as_slice() {
         return Some(Place::Close);
+    }
+    if path == b"/api/halt".as_slice() {
+        return Some(Place::Halt);
+    }
+    if path == b"/api/resume".as_slice() {
+        return Some(Place::Resume);
     }
     if path == b"/metrics".as_slice() {
         return Some(Place::Metrics);
@@ -149,13 +161,15 @@ pub(crate) fn call_at(place: Place, method: Method, query: &[u8]) -> Result<Call
         Place::Venues => by_get(method, Call::Venues),
         Place::Events => by_get(method, Call::Events),
         Place::Close => by_post(method, Call::Close),
+        Place::Halt => by_post(method, Call::Halt),
+        Place::Resume => by_post(method, Call::Resume),
         Place::Metrics => by_get(method, Call::Metrics),
     }
 }
 
-/// Whether a call hands in or closes, for which a desk may want its token.
+/// Whether a call hands in, closes or halts, for which a desk may want its token.
 pub(crate) fn changes_the_day(call: Call) -> bool
     ensures { result ≡ changes_the_day call }
 {
-    matches!(call, Call::Place | Call::Close)
+    matches!(call, Call::Place | Call::Close | Call::Halt | Call::Resume)
 }

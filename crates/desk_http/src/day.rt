@@ -1,6 +1,6 @@
 //! What the interface asks of a desk's day.
 
-ghost use Rattle.std.specs.Prelude.{◌≡◌, ◌≤◌, ℕ, List, Option, length, IfOk};
+ghost use Rattle.std.specs.Prelude.{◌≡◌, ◌≤◌, ℕ, Bool, List, Option, length, IfOk};
 ghost use Rattle.std.specs.Option.{option_map};
 ghost use Rattle.sweep_refs.specs.declared.submission.Submission.{Submission};
 ghost use Rattle.desk_json.specs.declared.outcome.Outcome.{Outcome};
@@ -9,33 +9,26 @@ ghost use Rattle.desk_json.specs.declared.standing.SweepLegs.{SweepLegs};
 ghost use Rattle.desk_json.specs.declared.standing.SweepsPage.{SweepsPage};
 ghost use Rattle.desk_json.specs.declared.standing.VenueRow.{VenueRow};
 ghost use Rattle.desk_http.specs.declared.day_sums.DaySums.{DaySums};
+ghost use Rattle.desk_http.specs.declared.process_use.ProcessUse.{ProcessUse};
 ghost use Rattle.desk_http.specs.declared.refusal_counts.RefusalCounts.{RefusalCounts};
+ghost use Rattle.desk_http.specs.declared.stopped.Stopped.{Stopped};
 
 use crate::day_sums::DaySums;
+use crate::process_use::ProcessUse;
 use crate::refusal_counts::RefusalCounts;
-use desk_json::{Event, ExecutionsPage, Outcome, SweepLegs, SweepsPage, VenueRow};
+use crate::stopped::Stopped;
+use desk_json::{ExecutionsPage, Outcome, SweepLegs, SweepsPage, VenueRow};
 use desk_words::VenueName;
 use std::alloc::AllocError;
 use sweep_refs::{Submission, SweepRef};
 
-/// What changed in the day.
-#[derive(Debug, Drop)]
-pub struct Changes {
-    /// The number of the last execution that was told: the next ones come behind it.
-    pub cursor: u64,
-    /// In their order.
-    pub events: Vec<Event>,
-    /// Whether the day is over: nothing comes behind them but how its audit ended, which is told by whoever audits.
-    pub is_over: bool,
-}
-
-/// A desk's day, as one connection asks it. An implementation that may wait for a lock holds its handle.
+/// A desk's day, as its clients ask it. An implementation that may wait for a lock holds its handle.
 pub trait Day {
     // The names of the venues, by their places.
     ghost venue_names: { Self → List (List ℕ) };
 
     // What the day answers, and what it is from then on.
-    ghost places: { Self → Submission → Outcome → Self → Type 0 };
+    ghost places: { Self → Submission → Option ℕ → Outcome → Self → Type 0 };
 
     ghost pages: { Self → ℕ → ℕ → SweepsPage → Self → Type 0 };
 
@@ -51,16 +44,24 @@ pub trait Day {
 
     ghost refuses: { Self → RefusalCounts → Type 0 };
 
-    ghost closes: { Self → Self → Type 0 };
+    ghost guesses: { Self → ℕ → Type 0 };
+
+    ghost uses: { Self → Option ProcessUse → Type 0 };
+
+    ghost closes: { Self → Option ℕ → Self → Type 0 };
+
+    ghost halts: { Self → Option ℕ → Stopped → Self → Type 0 };
+
+    ghost resumes: { Self → Option ℕ → Bool → Self → Type 0 };
 
     /// The names of the venues, by their places: at most 16.
     fn names(&self) -> &[VenueName]
         ensures value { result.now ≡ venue_names self.now }
         ensures few { length result.now ≤ 16 };
 
-    /// Hands a sweep in, and says what becomes of it.
-    fn place(&mut self, submission: Submission) -> Outcome
-        ensures { places self.old submission result self.new };
+    /// Hands a sweep in by the user at this place, where one is known, and says what becomes of it.
+    fn place(&mut self, submission: Submission, by: Option<usize>) -> Outcome
+        ensures { places self.old submission by result self.new };
 
     /// The number under which a sweep was placed under a reference, if one was.
     fn find(&self, reference: &SweepRef) -> Option<u64>
@@ -90,18 +91,27 @@ pub trait Day {
     fn refusals(&self) -> RefusalCounts
         ensures { refuses self.now result };
 
-    /// Has the day closed: from now on no sweep is placed. A second call changes nothing.
-    fn close(&mut self)
-        ensures { closes self.old self.new };
+    /// How many wrong tokens came until now.
+    fn wrong_tokens(&self) -> u64
+        ensures { guesses self.now result };
 
-    /// Begins to follow the day, and says behind which execution: behind this one where a client names one, and else
-    /// behind the last until now. It says no where too many follow it.
-    fn follow(&mut self, after: Option<u64>) -> Option<u64>;
+    /// What the process uses of the machine, if the system says it.
+    fn process_use(&self) -> Option<ProcessUse>
+        ensures { uses self.now result };
 
-    /// What changed since it was asked last, and the executions behind a number. Where there are none it waits for a
-    /// second at most.
-    fn changes(&mut self, since: u64) -> Result<Changes, AllocError>;
+    /// Has the day closed by the user at this place, where one is known: from now on no sweep is placed. A second call
+    /// changes nothing.
+    fn close(&mut self, by: Option<usize>)
+        ensures { closes self.old by self.new };
 
-    /// Ends what `follow` began.
-    fn unfollow(&mut self);
+    /// Has the desk halted by the user at this place, where one is known: no sweep is placed until it resumes.
+    fn halt(&mut self, by: Option<usize>) -> Stopped
+        ensures { halts self.old by result self.new };
+
+    /// Has it resume, and says whether a desk that is started again does too.
+    fn resume(&mut self, by: Option<usize>) -> bool
+        ensures { resumes self.old by result self.new };
+
+    /// Takes a place among those who follow the day, unless too many do.
+    fn may_follow(&mut self) -> bool;
 }

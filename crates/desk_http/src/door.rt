@@ -1,15 +1,18 @@
 //! Who may ask what.
 
-ghost use Rattle.std.specs.Prelude.{◌≡◌};
+ghost use Rattle.std.specs.Prelude.{◌≡◌, IfOk, slice_get};
 ghost use Rattle.std.specs.List.{list_all};
-ghost use Rattle.desk_http.specs.Door.{allowed, call_of, is_in_numbers, is_json, is_listed, is_named, is_of_numbers};
-ghost use Rattle.desk_http.specs.Door.{is_our_host, is_our_page, is_ours, is_served, knows_token, may_change};
+ghost use Rattle.desk_http.specs.Door.{AsksRightly, allowed, asked_by, by_token, by_user, call_of, if_may, is_in_numbers, is_json};
+ghost use Rattle.desk_http.specs.Door.{is_listed, is_named, is_of_numbers, is_our_host, is_our_page, is_ours};
+ghost use Rattle.desk_http.specs.Door.{is_served, knows_token, may_there, unknown, well_sent};
 
+use crate::admitted::Admitted;
 use crate::call::{Call, call_at, changes_the_day, place_of};
 use crate::parts::parts_at;
 use crate::refused::Refused;
 use crate::request::Request;
-use crate::same_token::is_same;
+use crate::user::{Right, User, right_of, user_with};
+use constant_time::is_same;
 
 /// What is served, and to whom.
 #[derive(Debug, Drop)]
@@ -23,8 +26,10 @@ pub struct Door {
     /// The names that it has beside those, as `desk.example.com`: a `Host` may be any of them, with whatever port.
     pub names: Vec<String>,
     /// What `Authorization` has to be where a call changes the day, as `Bearer WORD`; empty where no token is asked
-    /// for.
+    /// for. It counts only where there are no users.
     pub authorization: String,
+    /// Who may ask what. Where there is a user every call but the page's is a user's.
+    pub users: Vec<User>,
 }
 
 /// Whether a name is this one, where there is one.
@@ -113,7 +118,34 @@ fn is_json(content_type: &[u8]) -> bool
     content_type == b"application/json".as_slice() || content_type.starts_with(b"application/json;")
 }
 
-/// Whether a request has the token, where one is asked for.
+/// Where a call changes the day: whether it comes of our own page or of no page, and with JSON.
+fn well_sent(door: &Door, request: &Request, call: Call) -> Result<(), Refused>
+    ensures { result ≡ well_sent door.now request.now call }
+{
+    if !changes_the_day(call) {
+        return Ok(());
+    }
+    if !is_ours(door, request) {
+        return Err(Refused::ForeignOrigin);
+    }
+    if !is_json(request.content_type.as_slice()) {
+        return Err(Refused::NotJson);
+    }
+    Ok(())
+}
+
+/// Why nobody is known by this token.
+fn unknown(authorization: &[u8]) -> Refused
+    ensures { result ≡ unknown authorization.now }
+{
+    if authorization.is_empty() {
+        Refused::NoToken
+    } else {
+        Refused::WrongToken
+    }
+}
+
+/// Whether a request has the desk's one token, where one is asked for.
 fn knows_token(door: &Door, request: &Request) -> bool
     ensures { result ≡ knows_token door.now request.now }
 {
@@ -124,20 +156,58 @@ fn knows_token(door: &Door, request: &Request) -> bool
         )
 }
 
-/// Whether a request may change the day.
-fn may_change(door: &Door, request: &Request) -> Result<(), Refused>
-    ensures { result ≡ may_change door.now request.now }
+/// By nobody that is known, where the desk has no users: its one token is asked for where a call changes the day.
+fn by_token(door: &Door, request: &Request, call: Call) -> Result<Option<usize>, Refused>
+    ensures { result ≡ by_token door.now request.now call }
 {
-    if !is_ours(door, request) {
-        return Err(Refused::ForeignOrigin);
+    if changes_the_day(call) && !knows_token(door, request) {
+        return Err(unknown(request.authorization.as_slice()));
     }
-    if !is_json(request.content_type.as_slice()) {
-        return Err(Refused::NotJson);
+    Ok(None)
+}
+
+/// Whether the user at a place has a right.
+fn may_there(users: &[User], place: usize, right: Right) -> bool
+    ensures { result ≡ may_there (slice_get users.now place) right }
+{
+    match users.get(place) {
+        Some(user) => user.rights.has(right),
+        None => false,
     }
-    if !knows_token(door, request) {
+}
+
+/// By the user whose token it is, if he has the right; what needs no right is everybody's.
+fn by_user(
+    users: &[User],
+    authorization: &[u8],
+    right: Option<Right>,
+) -> Result<Option<usize>, Refused>
+    ensures { result ≡ by_user users.now authorization.now right }
+{
+    let Some(right) = right else {
+        return Ok(None);
+    };
+    if authorization.is_empty() {
         return Err(Refused::NoToken);
     }
-    Ok(())
+    let Some(user) = user_with(users, authorization) else {
+        return Err(Refused::WrongToken);
+    };
+    if !may_there(users, user, right) {
+        return Err(Refused::MayNot { user, right });
+    }
+    Ok(Some(user))
+}
+
+/// By which user a call is asked for, or why it isn't carried out.
+fn asked_by(door: &Door, request: &Request, call: Call) -> Result<Option<usize>, Refused>
+    ensures { result ≡ asked_by door.now request.now call }
+{
+    if door.users.is_empty() {
+        return by_token(door, request, call);
+    }
+    let authorization = request.authorization.as_slice();
+    by_user(door.users.as_slice(), authorization, right_of(call))
 }
 
 /// What a request asks for, whoever sent it.
@@ -152,18 +222,27 @@ fn call_of(request: &Request) -> Result<Call, Refused>
     }
 }
 
-/// What a request asks for and may ask for, or why it isn't carried out: `Host` first, then the path, the method and
-/// the query, and where it changes the day `Origin`, `Content-Type` and the token.
+/// The call and who asks for it, if it may be carried out.
+fn if_may(door: &Door, request: &Request, call: Call) -> Result<Admitted, Refused>
+    ensures value { result ≡ if_may door.now request.now call }
+    ensures rightly { IfOk result (AsksRightly door.now request.now) }
+{
+    well_sent(door, request, call)?;
+    let by = asked_by(door, request, call)?;
+    Ok(Admitted { call, by })
+}
+
+/// What a request asks for and may ask for, and by which user, or why it isn't carried out: `Host` first, then the
+/// path, the method and the query, where it changes the day `Origin` and `Content-Type`, and then the token and what
+/// its user may.
 #[tactic(auto, unfolding(crate::specs::Door::allowed))]
-pub fn allowed(door: &Door, request: &Request) -> Result<Call, Refused>
-    ensures { result ≡ allowed door.now request.now }
+pub fn allowed(door: &Door, request: &Request) -> Result<Admitted, Refused>
+    ensures value { result ≡ allowed door.now request.now }
+    ensures rightly { IfOk result (AsksRightly door.now request.now) }
 {
     if !is_served(door, request.host.as_slice()) {
         return Err(Refused::ForeignHost);
     }
     let call = call_of(request)?;
-    if changes_the_day(call) {
-        may_change(door, request)?;
-    }
-    Ok(call)
+    if_may(door, request, call)
 }

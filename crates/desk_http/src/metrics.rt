@@ -1,12 +1,13 @@
 //! The day as Prometheus' text.
 
 ghost use Rattle.std.specs.Prelude.{◌≡◌, [], ◌++◌, IfOk, OnOk, codes, string_bytes};
-ghost use Rattle.desk_http.specs.Metrics.{begun_text, build_text, metrics_text, parts_text, placed_text, refusals_text};
+ghost use Rattle.desk_http.specs.Metrics.{begun_text, build_text, cpu_text, mapped_text, metrics_text, parts_text, placed_text, refusals_text};
 ghost use Rattle.desk_http.specs.Metrics.{refused_desk, refused_legs, refused_limits, refused_sample, sample};
-ghost use Rattle.desk_http.specs.Metrics.{sweeps_text};
+ghost use Rattle.desk_http.specs.Metrics.{resident_text, sweeps_text, use_text, wrong_tokens_text};
 
 use crate::day_sums::DaySums;
 use crate::metric_text::{Seconds, write_head};
+use crate::process_use::ProcessUse;
 use crate::refusal_counts::RefusalCounts;
 use crate::run::Run;
 use crate::venue_metric::write_venues;
@@ -38,6 +39,46 @@ fn write_begun(text: &mut String, micros: u64) -> Result<(), AllocError>
     write_head(text, "process_start_time_seconds", words, "gauge")?;
     let begun = Seconds { micros };
     write!(text, "process_start_time_seconds {begun}\n")
+}
+
+/// Appends the processor time of the program so far.
+fn write_cpu(text: &mut String, micros: u64) -> Result<(), AllocError>
+    ensures { OnOk result (string_bytes text.new ≡ string_bytes text.old ++ cpu_text micros) }
+{
+    let words = "Processor time of the program so far, in seconds.";
+    write_head(text, "process_cpu_seconds_total", words, "counter")?;
+    let time = Seconds { micros };
+    write!(text, "process_cpu_seconds_total {time}\n")
+}
+
+/// Appends the resident memory of the program.
+fn write_resident(text: &mut String, bytes: u64) -> Result<(), AllocError>
+    ensures { OnOk result (string_bytes text.new ≡ string_bytes text.old ++ resident_text bytes) }
+{
+    let words = "Resident memory of the program, in bytes.";
+    write_head(text, "process_resident_memory_bytes", words, "gauge")?;
+    write_sample(text, "process_resident_memory_bytes", bytes)
+}
+
+/// Appends the memory that the program has mapped.
+fn write_mapped(text: &mut String, bytes: u64) -> Result<(), AllocError>
+    ensures { OnOk result (string_bytes text.new ≡ string_bytes text.old ++ mapped_text bytes) }
+{
+    let words = "Memory that the program has mapped, in bytes.";
+    write_head(text, "process_virtual_memory_bytes", words, "gauge")?;
+    write_sample(text, "process_virtual_memory_bytes", bytes)
+}
+
+/// Appends what the process uses, if the system says it.
+fn write_use(text: &mut String, used: Option<ProcessUse>) -> Result<(), AllocError>
+    ensures { OnOk result (string_bytes text.new ≡ string_bytes text.old ++ use_text used) }
+{
+    let Some(used) = used else {
+        return Ok(());
+    };
+    write_cpu(text, used.cpu)?;
+    write_resident(text, used.resident)?;
+    write_mapped(text, used.mapped)
 }
 
 /// Appends how many sweeps were placed.
@@ -131,25 +172,39 @@ fn write_parts(text: &mut String, parts: &Totals) -> Result<(), AllocError>
     write_sample(text, "dispatch_shares{part=\"open\"}", parts.still_open)
 }
 
-/// The day as Prometheus' text: the run that serves it, its sweeps, those that were refused, its shares, and what is
-/// told of each venue. The only refusal is out of memory.
+/// Appends how many wrong tokens came.
+fn write_wrong_tokens(text: &mut String, count: u64) -> Result<(), AllocError>
+    ensures { OnOk result (string_bytes text.new ≡ string_bytes text.old ++ wrong_tokens_text count) }
+{
+    let words = "Requests with a token that is nobody's.";
+    write_head(text, "dispatch_wrong_tokens_total", words, "counter")?;
+    write_sample(text, "dispatch_wrong_tokens_total", count)
+}
+
+/// The day as Prometheus' text: the run that serves it, what it uses, its sweeps, those that were refused, its shares,
+/// the wrong tokens, and what is told of each venue. The only refusal is out of memory.
 #[tactic(auto, unfolding(crate::specs::Metrics::metrics_text))]
 pub(crate) fn metrics_text(
     alloc: Global,
     run: &Run,
+    used: Option<ProcessUse>,
     sums: &DaySums,
     refusals: &RefusalCounts,
+    wrong_tokens: u64,
     venues: &[VenueRow],
 ) -> Result<String, AllocError>
-    ensures { IfOk result (λ text. string_bytes text ≡ metrics_text run.now sums.now refusals.now venues.now) }
+    ensures { IfOk result (λ text. string_bytes text
+        ≡ metrics_text run.now used sums.now refusals.now wrong_tokens venues.now) }
 {
     let mut text = String::new(alloc);
     write_build(&mut text)?;
     write_begun(&mut text, run.begun)?;
+    write_use(&mut text, used)?;
     write_sweeps(&mut text, sums.sweeps)?;
     write_refusals(&mut text, refusals)?;
     write_placed(&mut text, sums.placed)?;
     write_parts(&mut text, &sums.parts)?;
+    write_wrong_tokens(&mut text, wrong_tokens)?;
     write_venues(&mut text, venues)?;
     Ok(text)
 }

@@ -5,7 +5,7 @@ pub const PAGE: &str = r###"<!doctype html>
 <html lang="en">
 <head>
 <meta charset="utf-8">
-<meta http-equiv="Content-Security-Policy" content="default-src 'none'; script-src 'sha256-vyIOWTcjVT3W5gxdOBTyqF75wrBocB1EmDXXF93ckUA='; style-src 'sha256-9j9grgHCb4OjElDby1LT2sLTDIJyZ+iGJWl82qv5EsE='; connect-src 'self'; base-uri 'none'; form-action 'none'; require-trusted-types-for 'script'; trusted-types 'none'">
+<meta http-equiv="Content-Security-Policy" content="default-src 'none'; script-src 'sha256-yN9QfX6on/BYqtDbMHmhyDR+0nngbKdrHA5kubONGOQ='; style-src 'sha256-X9lPgP4VOPKBEBc6Ofuaympk0JfAecBNaqJJfgsup20='; connect-src 'self'; base-uri 'none'; form-action 'none'; require-trusted-types-for 'script'; trusted-types 'none'">
 <meta name="viewport" content="width=device-width, initial-scale=1">
 <meta name="referrer" content="no-referrer">
 <meta name="color-scheme" content="light dark">
@@ -37,6 +37,8 @@ body { margin: 0; background: var(--page); color: var(--ink); font-variant-numer
 h1, h2, h3, p, dl, dd, ul, ol { margin: 0; padding: 0; }
 ul, ol { list-style: none; }
 h1 { font-size: 1.35rem; line-height: 1.15; }
+#environment { color: var(--warn); }
+.real #environment { color: var(--bad); }
 h1 small { display: block; font-size: .8rem; font-weight: 400; color: var(--soft); }
 h2 { font-size: 1.15rem; }
 h3 { font-size: 1rem; }
@@ -66,6 +68,8 @@ input[type=checkbox] {
 [aria-invalid=true] { border: 2px solid var(--bad); }
 
 header { position: sticky; top: 0; z-index: 2; background: var(--card); border-bottom: 1px solid var(--line); }
+.test { border-top: 4px solid var(--warn); }
+.real { border-top: 4px solid var(--bad); }
 .line { display: flex; flex-wrap: wrap; align-items: center; gap: .5rem 1.5rem; padding: .6rem 1.25rem; }
 #standing { display: flex; align-items: center; gap: .5rem; font-weight: 600; flex: 1 1 12rem; }
 #sums { display: flex; flex-wrap: wrap; gap: .2rem 1.75rem; }
@@ -253,9 +257,9 @@ dialog input { width: 100%; display: block; margin-top: .3rem; }
 <a class="skip" href="#sweeps">To the sweeps</a>
 <a class="skip" href="#hand-in">To a new sweep</a>
 
-<header>
+<header id="top">
   <div class="line">
-    <h1>Desk <small id="place"></small></h1>
+    <h1><span id="desk-name">Desk</span> <b id="environment"></b> <small id="place"></small></h1>
     <p id="standing" role="status"></p>
     <dl id="sums" class="heard" aria-label="Shares of all the day's sweeps">
       <div><dt>Shares placed</dt><dd id="sum-placed">–</dd></div>
@@ -383,6 +387,8 @@ const legsOf = new Map();     // of the sweeps that are opened, by number
 let closing = false;
 let audit = null;             // how the day's audit ended, once it is closed
 let run = null;               // which run of the program answers: its id
+let desk = "Desk";            // its name
+let environment = "";         // where it trades
 let beganAnew = null;         // when another run was found to answer, and how the day before it had ended
 
 // Each event has its place in time: what was asked for before an event and answered behind it is older than the event.
@@ -600,7 +606,7 @@ function drawVenues() {
     !audit && (isStale() ? "No answer" : lostAt && "Events lost"),
     unbooked > 0 && `${digits(unbooked)} unbooked`,
     amiss > 0 && `${amiss} of ${phases.length} not up`,
-    `Desk ${location.host}`,
+    [environment, desk, location.host].filter(Boolean).join(" "),
   ];
   document.title = words.filter(Boolean).join(" · ");
 }
@@ -1116,9 +1122,33 @@ function beginAnew() {
   draw();
 }
 
+let asking = null;            // the token that is asked for, while it is
+let denied = false;           // whether the page reads nothing, since no token was given
+
+// Asks the desk; where it asks for a token it has done nothing, and is asked again with one. Null where none was given.
+async function request(path, signal, more = {}) {
+  for (;;) {
+    const token = sessionStorage.getItem("token");
+    const headers = { ...more.headers, ...(token ? { Authorization: `Bearer ${token}` } : {}) };
+    const response = await fetch(path, { cache: "no-store", redirect: "error", signal: signal(), ...more, headers });
+    const mayNot = response.status === 403 && !more.method;
+    if (response.status !== 401 && !mayNot) return response;
+    if (sessionStorage.getItem("token") !== token) continue;
+    const { fault } = answerOf(await response.text());
+    const why = mayNot ? `${fault}: another token?` : token && "The desk didn't take that token.";
+    sessionStorage.removeItem("token");
+    if (denied && !more.method) return null;
+    asking ??= askToken(why).finally(() => asking = null);
+    const given = await asking;
+    denied = !given;
+    if (!given) return null;
+    sessionStorage.setItem("token", given);
+  }
+}
+
 async function ask(path) {
-  const signal = AbortSignal.timeout(ANSWER_WITHIN);
-  const response = await fetch(path, { cache: "no-store", redirect: "error", signal });
+  const response = await request(path, () => AbortSignal.timeout(ANSWER_WITHIN));
+  if (!response) throw new Error("no token was given");
   if (!isOfThisRun(response.headers.get("Dispatch-Run"))) throw ANOTHER_RUN;
   if (!response.ok) {
     throw Object.assign(new Error(`${path} was answered ${response.status}`), { status: response.status });
@@ -1208,6 +1238,7 @@ const isStale = () => audit === null && heardAt !== null && (silentAt !== null |
 
 function standingOf(since) {
   if (audit) return audit === "ok" ? ["off", "square", "Day closed"] : ["bad", "triangle", "Day closed, audit failed"];
+  if (denied) return ["warn", "cross", "Not shown"];
   if (isStale()) return ["bad", "triangle", `No answer since ${clock(heardAt)}`];
   if (!following && !lostAt) return ["calm", "ring", "Reading the day"];
   if (!following) return ["bad", "triangle", `Events lost since ${since}`];
@@ -1237,6 +1268,7 @@ function banner() {
     return ["off", "square", "The day is closed, and its audit found nothing wrong. This is how it ended."];
   }
   if (audit) return ["bad", "triangle", `The day is closed, and its audit FAILED: ${audit}`];
+  if (denied) return ["warn", "cross", "The desk shows its day for a token alone: reload the page to give one."];
   if (lostAt && silentAt && closing) {
     const what = "It may have ended; how its audit went wasn't seen here.";
     return ["bad", "triangle", `The day was closing when the desk last answered, at ${clock(silentAt)}. ${what}`];
@@ -1247,7 +1279,7 @@ function banner() {
   }
   if (lostAt) {
     const what = `The page reads the day every ${LOOK_EVERY / 1000} seconds instead, and goes on trying.`;
-    const why = isRefused ? " Perhaps four others follow the day, which is the most." : "";
+    const why = isRefused ? " Perhaps 64 others follow the day, which is the most." : "";
     return ["warn", "cross", `Events were lost at ${clock(lostAt)}. ${what}${why}`];
   }
   if (closing) {
@@ -1287,9 +1319,19 @@ function lose(fault) {
   draw();
 }
 
+// An environment whose name begins with PROD or LIVE is the real one.
+function takeLabel(said) {
+  desk = said.desk || "Desk";
+  environment = said.environment || "";
+  setText(at("desk-name"), desk);
+  setText(at("environment"), environment);
+  at("top").className = environment && (/^(prod|live)/i.test(environment) ? "real" : "test");
+}
+
 const EVENTS = {
   run(said) {
     streamRun = said.run;
+    takeLabel(said);
     if (!isOfThisRun(said.run)) catchUp(stream);
   },
   sweep(said) {
@@ -1310,7 +1352,7 @@ const EVENTS = {
   closed(said) {
     closing = true;
     audit = said.audit;
-    stream.close();
+    stream.abort();
     stream = null;
     tell("The day is closed.");
   },
@@ -1322,16 +1364,29 @@ let redial = 0;
 
 function follow() {
   clearTimeout(redial);
-  stream?.close();
-  const mine = new EventSource("/api/events");
+  stream?.abort();
+  const mine = new AbortController();
   stream = mine;
   isRefused = true;
-  mine.onopen = () => {
-    isRefused = false;
-    catchUp(mine);
-  };
-  mine.onerror = () => again(mine, null);
-  for (const name of Object.keys(EVENTS)) mine.addEventListener(name, event => take(mine, name, event.data));
+  listen(mine).catch(() => {}).then(() => stream === mine && again(mine, null));
+}
+
+// Reads the events by itself, since an EventSource sends no token.
+async function listen(mine) {
+  const response = await request("/api/events", () => mine.signal);
+  if (!response?.ok) return;
+  isRefused = false;
+  catchUp(mine);
+  const reader = response.body.pipeThrough(new TextDecoderStream()).getReader();
+  let text = "";
+  for (let got; !(got = await reader.read()).done;) {
+    const events = (text + got.value).split("\n\n");
+    text = events.pop();
+    for (const lines of events) {
+      const { event, data } = Object.fromEntries(lines.split("\n").map(line => line.split(/: (.*)/)));
+      if (event in EVENTS) take(mine, event, data);
+    }
+  }
 }
 
 // Reads what came before the stream; from then on the page follows.
@@ -1373,7 +1428,7 @@ function take(mine, name, data) {
 function again(mine, fault) {
   if (audit || fault === ANOTHER_RUN) return;
   if (stream === mine && mine !== null) {
-    stream.close();
+    stream.abort();
     stream = null;
     redial = setTimeout(follow, wait);
     wait = Math.min(2 * wait, 15000);
@@ -1439,8 +1494,8 @@ function askBack(title, body, yes) {
   });
 }
 
-function askToken(isAgain) {
-  setText(at("token-why"), isAgain ? "The desk didn't take that token." : "It is kept until this tab is closed.");
+function askToken(why) {
+  setText(at("token-why"), why || "It is kept until this tab is closed.");
   at("token").value = "";
   at("token-ask").returnValue = "no";
   at("token-ask").showModal();
@@ -1450,27 +1505,18 @@ function askToken(isAgain) {
   });
 }
 
-// Posts once; where the desk asks for its token it has done nothing, and is asked again with one. Answers null where
-// none was given, and `lost` where it isn't known what the desk did.
+// Posts once. Answers null where no token was given, and `lost` where it isn't known what the desk did.
 async function post(path, body) {
-  for (;;) {
-    const token = sessionStorage.getItem("token");
-    const headers = { "Content-Type": "application/json", ...(token ? { Authorization: `Bearer ${token}` } : {}) };
-    let response, text;
-    try {
-      const signal = AbortSignal.timeout(3 * ANSWER_WITHIN);
-      const more = { cache: "no-store", redirect: "error", signal };
-      response = await fetch(path, { method: "POST", headers, body: JSON.stringify(body), ...more });
-      text = await response.text();
-    } catch (fault) {
-      return { lost: true };
-    }
+  const headers = { "Content-Type": "application/json" };
+  const more = { method: "POST", headers, body: JSON.stringify(body) };
+  try {
+    const response = await request(path, () => AbortSignal.timeout(3 * ANSWER_WITHIN), more);
+    if (!response) return null;
+    const text = await response.text();
     isOfThisRun(response.headers.get("Dispatch-Run"));
-    if (response.status !== 401) return { status: response.status, said: answerOf(text) };
-    sessionStorage.removeItem("token");
-    const given = await askToken(token !== null);
-    if (!given) return null;
-    sessionStorage.setItem("token", given);
+    return { status: response.status, said: answerOf(text) };
+  } catch (fault) {
+    return { lost: true };
   }
 }
 

@@ -1,8 +1,2 @@
-mod AllSeats
-mod Auditing
-pub mod Begun
-mod DoubtsTold
-mod LegsInDoubt
-pub mod NewStarts
+mod Noted
 mod PastLines
-pub mod Whole

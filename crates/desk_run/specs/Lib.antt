@@ -1,8 +1,2 @@
-pub mod Opening
-pub mod Audited
-pub mod Doubts
+pub mod GoingOn
 pub mod Limiting
-pub mod Seats
-pub mod Told
-pub mod Unbooked
-pub mod Whole

@@ -6,19 +6,21 @@ ghost use Rattle.session_worker.specs.Keeping.{Told};
 ghost use Rattle.std.specs.List.{AllZip};
 ghost use Rattle.day_restart.specs.DayJournal.{GoesBehind};
 ghost use Rattle.day_restart.specs.Restored.{PlacesAgain};
+ghost use Rattle.day_restart.specs.Told.{TellsDay};
 ghost use Rattle.venue_words.specs.Dialect.{dialect_of};
 ghost use Rattle.desk_venues.specs.Faults.{IsNoMismatch};
 ghost use Rattle.desk_venues.specs.Starts.{workers_from};
-ghost use Rattle.desk_run.specs.Audited.{AreBegun, HasKept};
-ghost use Rattle.desk_run.specs.Opening.{new_starts};
+ghost use Rattle.desk_day.specs.Audited.{AreBegun, HasKept};
+ghost use Rattle.desk_run.specs.GoingOn.{all_noted, durable_of};
+ghost use Rattle.desk_day.specs.Opening.{new_starts};
 
-use crate::opening::{BegunDay, Past};
 use crate::running::JournalAt;
 use day_restart::{
     DayFiles, DayJournal, DayJournals, JournalNames, JournalRefused, Placed, RestartFault,
     RestoredDay, VenuePast, restore_day,
 };
 use desk_config::{Durable, Venue};
+use desk_day::{BegunDay, Past};
 use desk_floor::{HaltMark, JournalWatch, Refs};
 use desk_venues::DayFault;
 use desk_words::{VenueName, shown};
@@ -55,7 +57,9 @@ fn refused(alloc: Global, folder: &str, fault: RestartFault) -> DayFault
 }
 
 /// What the journals outlive, as their files know it.
-fn durable_of(durable: Durable) -> journal_folder::Durable {
+fn durable_of(durable: Durable) -> journal_folder::Durable
+    ensures { result ≡ durable_of durable }
+{
     match durable {
         Durable::Process => journal_folder::Durable::Process,
         Durable::Power => journal_folder::Durable::Power,
@@ -102,6 +106,7 @@ fn pasts_of<'p, R: Files<File = File> + Clock>(
         ≡ map (λ v. dialect_of v.words) venues.now) }
     ensures lines { IfOk result (λ pasts. map (λ p. map (λ l. l.items) p.lines.now) pasts.items
         ≡ map (λ f. f.lines) files.now.venues.items) }
+    ensures names { IfOk result (λ pasts. map (λ p. p.name.now) pasts.items ≡ map (λ v. v.name) venues.now) }
 {
     let mut pasts = Vec::new(alloc);
     for venue in venues {
@@ -135,6 +140,8 @@ pub(crate) fn restored<L: Run, M: Accounts, R: Files<File = File> + Wait + Clock
         done.0.desk.desk) }
     ensures noted { IfOk result (λ done. IsNoted done.0.desk
         (Some (record { kept = files.now.desk.lines; unkept = [] }))) }
+    ensures told { IfOk result (λ done. TellsDay (map (λ v. v.name) venues.now) files.now.desk.lines
+        (map (λ v. v.name) venues.now) done.1.refs.items done.1.shares done.0.starts.items done.1.told) }
     ensures many { IfOk result (λ done. length done.0.starts.items ≡ length venues.now) }
     ensures parts { IfOk result (λ done. done.0.seat.parts ≡ begun.seat.parts) }
     ensures only { IfErr result IsNoMismatch }
@@ -177,13 +184,12 @@ pub(crate) fn restored<L: Run, M: Accounts, R: Files<File = File> + Wait + Clock
 }
 
 /// The references of sweeps that were placed in lives before.
-fn refs_of(alloc: Global, placed: Vec<Placed>) -> Result<Refs, AllocError> {
+fn refs_of(alloc: Global, placed: Vec<Placed>) -> Result<Refs, AllocError>
+    ensures { IfOk result (λ refs. refs.book.placed ≡ all_noted [] placed.items) }
+{
     let mut refs = Refs::new(alloc);
-    for Placed {
-        reference,
-        placement,
-    } in placed {
-        refs.note_again(reference, placement)?;
+    for one in placed {
+        refs.note_again(one.reference, one.placement)?;
     }
     Ok(refs)
 }
@@ -238,6 +244,8 @@ pub(crate) fn past_of<'a, R: Files<File = File> + Clock>(
     ensures desk { IfOk result (λ past. past.desk ≡ record { kept = files.now.desk.lines; unkept = [] }) }
     ensures venues { IfOk result (λ past. AllZip GoesBehind (map (λ f. f.lines) files.now.venues.items)
         past.venues.items) }
+    ensures refs { IfOk result (λ past. past.refs.book.placed ≡ all_noted [] placed.items) }
+    ensures shares { IfOk result (λ past. past.shares ≡ shares) }
     ensures only { IfErr result IsNoMismatch }
 {
     // The mark is made before the journals' files, with which its folder is put on the disk.

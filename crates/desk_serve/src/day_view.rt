@@ -1,4 +1,4 @@
-//! A desk's day, as one connection asks it.
+//! A desk's day, as its clients ask it.
 
 ghost use Rattle.std.specs.Prelude.{◌≡◌, ⊤, Some, IfOk, filter_map, length};
 ghost use Rattle.std.specs.Option.{IsSomeAnd};
@@ -7,15 +7,14 @@ ghost use Rattle.desk_serve.specs.Answered.{IsAnswered, outcome_of};
 ghost use Rattle.desk_serve.specs.Executions.{IsExecutions};
 ghost use Rattle.desk_serve.specs.Shown.{AreAll, AreShown, IsPage, IsSums, IsSweep};
 
-use crate::follower::Follower;
 use crate::page::Page;
 use crate::shown::{leg_rows, sweeps_behind, venue_rows};
 use clock::UtcClock;
 use day_log::LineLog;
 use desk_answers::{Answer, Refusal};
 use desk_floor::{Closing, Floor, sweep_legs};
-use desk_http::{Changes, Day, DaySums, RefusalCounts};
-use desk_json::{Event, ExecutionsPage, LegRow, Outcome, SweepLegs, SweepsPage, VenueRow};
+use desk_http::{Day, DaySums, ProcessUse, RefusalCounts, Stopped};
+use desk_json::{ExecutionsPage, LegRow, Outcome, SweepLegs, SweepsPage, VenueRow};
 use desk_words::VenueName;
 use exec_collector::Accounts;
 use kept_link::Telling;
@@ -23,20 +22,11 @@ use release_lock::Run;
 use std::alloc::{AllocError, Global};
 use std::io::Write;
 use std::sync::Wait;
-use std::time::{Clock, Duration};
+use std::time::Clock;
 use sweep_refs::{Submission, SweepRef};
 use sweep_text::write_sweep;
 
-/// How many milliseconds pass between two tellings, at least: what comes in a burst is told once.
-const TELL_MILLIS: u64 = 1;
-
-/// How many executions are told at once, at most.
-const MOST_EXECUTIONS: u64 = 200;
-
-/// How many seconds a change is waited for.
-const LOOK_SECONDS: u64 = 1;
-
-/// A desk's day, as one connection asks it.
+/// A desk's day, as its clients ask it.
 #[derive(Drop)]
 pub(crate) struct DayView<'a, L: Run, M: Accounts, W: Write + Drop, J: Telling, R: Wait + Clock> {
     rt: &'a R,
@@ -45,11 +35,6 @@ pub(crate) struct DayView<'a, L: Run, M: Accounts, W: Write + Drop, J: Telling, 
     page: &'a Page,
     clock: UtcClock<'a, R>,
     log: LineLog<'a, R, UtcClock<'a, R>>,
-    follower: Option<Follower>,
-    /// Whether changes were told by the last call.
-    has_told: bool,
-    /// Whether it was followed to its end.
-    is_over: bool,
     /// What shows that the day is closing, once the client had it closed.
     closing: Option<Closing<'a>>,
 }
@@ -65,11 +50,6 @@ fn outcome_of(answer: Answer) -> Outcome
         Answer::Closing => Outcome::Closing,
         Answer::BadLine { .. } => Outcome::Refused(Refusal::OutOfMemory),
     }
-}
-
-/// Whether nothing changed.
-fn is_still(changes: &Changes) -> bool {
-    changes.events.is_empty() && !changes.is_over
 }
 
 /// The legs of the sweep of this number, if there are any.
@@ -93,7 +73,7 @@ impl<'a, L: Run, M: Accounts, W: Write + Drop, J: Telling, R: Wait + Clock> DayV
     J,
     R,
 > {
-    /// The day as a new connection asks it. The only refusal is out of memory.
+    /// The day as clients ask it. The only refusal is out of memory.
     pub fn new(
         rt: &'a R,
         alloc: Global,
@@ -107,33 +87,15 @@ impl<'a, L: Run, M: Accounts, W: Write + Drop, J: Telling, R: Wait + Clock> DayV
             page,
             clock: UtcClock::new(rt),
             log: LineLog::new(rt, alloc, UtcClock::new(rt), floor.line_log()?),
-            follower: None,
-            has_told: false,
-            is_over: false,
             closing: None,
         })
     }
 
-    /// Begins to follow the day, and gives the number of the execution behind which it does. The only refusal is out of
-    /// memory.
-    fn begin(&mut self, after: Option<u64>) -> Result<u64, AllocError> {
-        self.follower = Some(Follower::new(self.rt, self.alloc, self.floor)?);
-        match after {
-            Some(number) => Ok(number),
-            None => Ok(self.executions_behind(u64::MAX, 0)?.last),
-        }
-    }
-
-    /// Whether the connection followed the day to its end.
-    pub fn is_over(&self) -> bool {
-        self.is_over
-    }
-
-    /// Tells changes.
-    fn telling(&mut self, changes: Changes) -> Changes {
-        self.has_told = !changes.events.is_empty();
-        self.is_over = changes.is_over;
-        changes
+    /// Logs what a client asked for as the line that asks for it, and never between a sweep's line and its answer.
+    fn note_line(&mut self, line: &[u8], by: Option<usize>) {
+        let _turn = self.floor.turn.lock(self.rt);
+        self.log.speak_for(self.page.user_name(by));
+        self.log.taken(line);
     }
 
     /// The executions behind a number, at most so many. It may wait for locks. The only refusal is out of memory.
@@ -150,36 +112,13 @@ impl<'a, L: Run, M: Accounts, W: Write + Drop, J: Telling, R: Wait + Clock> DayV
             most,
         )
     }
-
-    /// What changed since it was asked last, behind the executions that come next after this number. Where there are
-    /// more of these than are told at once the day isn't over yet.
-    fn news(&mut self, since: u64) -> Result<Changes, AllocError> {
-        let is_over = self.floor.signals.is_over();
-        let page = self.executions_behind(since, MOST_EXECUTIONS)?;
-        let mut cursor = since;
-        let mut events = Vec::new(self.alloc);
-        for execution in page.executions {
-            cursor = execution.number;
-            events.push(Event::Execution(execution))?;
-        }
-        if let Some(follower) = &mut self.follower {
-            for event in follower.news(self.rt, &self.clock, self.alloc, self.floor)? {
-                events.push(event)?;
-            }
-        }
-        Ok(Changes {
-            cursor,
-            events,
-            is_over: is_over && cursor >= page.last,
-        })
-    }
 }
 
 impl<'a, L: Run, M: Accounts, W: Write + Drop, J: Telling, R: Wait + Clock> Day
     for DayView<'a, L, M, W, J, R> {
     ghost venue_names = { λ day. day.floor.now.names.items };
 
-    ghost places = { λ day submission outcome _.
+    ghost places = { λ day submission _ outcome _.
         IsAnswered (Some day.floor.now.limits) day.floor.now.names.items day.floor.now.manner.wants_refs submission
         outcome };
 
@@ -198,13 +137,22 @@ impl<'a, L: Run, M: Accounts, W: Write + Drop, J: Telling, R: Wait + Clock> Day
 
     ghost refuses = { λ _ _. ⊤ };
 
-    ghost closes = { λ old new. IsSomeAnd new.closing (λ shown. shown.of ≡ old.floor.now.signals.closing.id) };
+    ghost guesses = { λ _ _. ⊤ };
+
+    ghost uses = { λ _ _. ⊤ };
+
+    ghost closes = { λ old _ new. IsSomeAnd new.closing (λ shown. shown.of ≡ old.floor.now.signals.closing.id) };
+
+    ghost halts = { λ _ _ _ _. ⊤ };
+
+    ghost resumes = { λ _ _ _ _. ⊤ };
 
     fn names(&self) -> &[VenueName] {
         self.floor.names.as_slice()
     }
 
-    fn place(&mut self, submission: Submission) -> Outcome {
+    fn place(&mut self, submission: Submission, by: Option<usize>) -> Outcome {
+        self.log.speak_for(self.page.user_name(by));
         let names = self.floor.names.as_slice();
         let legs = submission.sweep.legs.as_slice();
         let answer = match write_sweep(self.alloc, names, submission.reference.as_ref(), legs) {
@@ -274,45 +222,36 @@ impl<'a, L: Run, M: Accounts, W: Write + Drop, J: Telling, R: Wait + Clock> Day
         }
     }
 
-    fn close(&mut self) {
+    fn wrong_tokens(&self) -> u64 {
+        self.page.wrong_tokens(self.rt)
+    }
+
+    fn process_use(&self) -> Option<ProcessUse> {
+        self.page.process_use()
+    }
+
+    fn close(&mut self, by: Option<usize>) {
+        self.log.speak_for(self.page.user_name(by));
+        self.log.closed();
         self.closing = Some(self.floor.ask_to_close(self.rt));
     }
 
-    fn follow(&mut self, after: Option<u64>) -> Option<u64> {
-        if !self.page.begin_following() {
-            return None;
-        }
-        match self.begin(after) {
-            Ok(from) => Some(from),
-            Err(_) => {
-                self.page.end_following();
-                None
-            }
+    fn halt(&mut self, by: Option<usize>) -> Stopped {
+        let stopped = self.floor.halt(self.rt);
+        self.note_line(b"halt", by);
+        Stopped {
+            is_sending: stopped.sending.is_some(),
+            is_kept: stopped.is_kept,
         }
     }
 
-    fn changes(&mut self, since: u64) -> Result<Changes, AllocError> {
-        let floor = self.floor;
-        if self.has_told {
-            let turn = floor.bells.turns().count();
-            if !floor.signals.is_over() {
-                let most = Duration::from_millis(TELL_MILLIS);
-                floor.bells.turns().wait(self.rt, turn, most);
-            }
-        }
-        let seen = floor.bells.news().count();
-        let changes = self.news(since)?;
-        if !is_still(&changes) {
-            return Ok(self.telling(changes));
-        }
-        let most = Duration::from_secs(LOOK_SECONDS);
-        floor.bells.news().wait(self.rt, seen, most);
-        let changes = self.news(since)?;
-        Ok(self.telling(changes))
+    fn resume(&mut self, by: Option<usize>) -> bool {
+        let is_kept = self.floor.resume(self.rt);
+        self.note_line(b"resume", by);
+        is_kept
     }
 
-    fn unfollow(&mut self) {
-        self.follower = None;
-        self.page.end_following();
+    fn may_follow(&mut self) -> bool {
+        self.page.begin_following()
     }
 }

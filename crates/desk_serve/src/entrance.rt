@@ -3,13 +3,14 @@
 use readiness::{Readiness, Wakeup};
 use std::alloc::Global;
 use std::io;
+use std::io::ErrorKind;
 use std::net::{Net, TcpListener, TcpStream};
 use std::os::fd::AsRawFd;
 use std::sync::atomic::{AtomicBool, Ordering};
 use std::sync::{Arc, Mutex, Wait};
 use std::time::Duration;
 
-/// How many seconds a server waits for a client before it looks at the day by itself. The end of the day ends the wait.
+/// How many seconds it is waited for a client before it looks at the day by itself. The end of the day ends the wait.
 const LOOK_SECONDS: u64 = 10;
 
 /// What waits for clients.
@@ -19,8 +20,7 @@ struct Listening {
     readiness: Readiness,
 }
 
-/// Where the clients of a page come in. One server waits for the next one, and the others for their turn to: so a
-/// client wakes two of them, and none wakes for nothing.
+/// Where the clients of a page come in.
 #[derive(Drop)]
 pub(crate) struct Entrance {
     listening: Mutex<Listening>,
@@ -46,20 +46,27 @@ impl Entrance {
         Ok(self.wakeup.clone()?)
     }
 
-    /// The next client, if one comes before the day is over.
-    pub fn next_client(&self, rt: &impl Wait, is_over: &AtomicBool) -> Option<TcpStream> {
+    /// The next client, if one comes before the day is over. A fault is the system's, as that descriptors are wanted.
+    pub fn next_client(
+        &self,
+        rt: &impl Wait,
+        is_over: &AtomicBool,
+    ) -> io::Result<Option<TcpStream>> {
         let mut listening = self.listening.lock(rt);
         if is_over.load(Ordering::SeqCst) {
-            return None;
+            return Ok(None);
         }
         let Listening {
             listener,
             readiness,
         } = &mut *listening;
         if !readiness.wait(Duration::from_secs(LOOK_SECONDS)) {
-            return None;
+            return Ok(None);
         }
-        let (client, _) = listener.accept().ok()?;
-        Some(client)
+        match listener.accept() {
+            Ok((client, _)) => Ok(Some(client)),
+            Err(fault) if fault.kind() == ErrorKind::WouldBlock => Ok(None),
+            Err(fault) => Err(fault),
+        }
     }
 }

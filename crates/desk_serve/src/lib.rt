@@ -1,4 +1,4 @@
-//! The page and the interface for programs, served over TCP while a desk's day runs.
+//! The page and the interface for programs, served over TCP while a desk's day runs; and who takes part in such a day.
 //!
 //! Promises:
 //! - Unless the day is closing, a sweep that comes over HTTP is answered as the day's floor answers it: with what
@@ -26,20 +26,32 @@
 //! - A client that has the day closed sets the flag of this very day, behind which no sweep is taken (`closes`, the
 //!   meaning of `close` of `desk_http`).
 //! - What a request may ask, and the texts of the answers, are said by `desk_http`. That the events are those of the
-//!   day, that a client is answered in time, and that those who follow the day are told what changes, is only tested.
+//!   day, that a client is answered in time, that a slow one delays no other, and that those who follow the day are
+//!   told what changes, is only tested.
 //!
 //! See `docs/api.md`.
 #![tactic(auto)]
 
+mod cast;
+mod client;
 mod counted;
 mod day_view;
 mod entrance;
+mod feed;
 mod follower;
+mod gate;
+mod hall;
+mod listener;
+mod outgoing;
 mod page;
 mod page_server;
 mod part_sums;
+mod process;
 mod rows;
 mod shown;
 
+pub use cast::{Cast, Ended};
+pub use desk_http::{Rights, User};
 pub use follower::tell_closed;
 pub use page_server::{PageServer, open_page};
+pub use process::PROCESS_FILE;

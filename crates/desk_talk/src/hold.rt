@@ -1,12 +1,13 @@
 //! The lines by which a person halts the desk, pauses a venue, and frees them again.
 
 ghost use Rattle.std.specs.Prelude.{◌≡◌, ◌≤◌, ◌<◌, drop, length, option_map, position, IfSome};
-ghost use Rattle.std.specs.Str.{bytes_eq};
-ghost use Rattle.desk_talk.specs.Hold.{hold_of, venue_hold, venue_of};
+ghost use Rattle.std.specs.Str.{IsTrimAscii, bytes_eq};
+ghost use Rattle.desk_talk.specs.Hold.{hold_fault, hold_of, no_venue, venue_hold, venue_of};
 ghost use Rattle.desk_talk.specs.declared.hold.Hold.TheVariants.{Pause, Unpause};
 
-use desk_words::VenueName;
+use desk_words::{VenueName, shown};
 use leg::VenueId;
+use sweep_text::LineFault;
 
 /// What a person asks to be held or freed.
 #[derive(Clone, Copy, Debug, PartialEq, Eq)]
@@ -65,6 +66,13 @@ fn unpause_of(names: &[VenueName], word: &[u8]) -> Option<Hold>
     }
 }
 
+/// A line without the white space at its ends.
+pub(crate) fn bare(line: &[u8]) -> &[u8]
+    ensures { IsTrimAscii line.now result.now }
+{
+    line.trim_ascii()
+}
+
 /// A line without its first bytes.
 fn from(line: &[u8], count: usize) -> &[u8]
     requires { count ≤ length line.now }
@@ -99,4 +107,24 @@ pub(crate) fn hold_of(names: &[VenueName], line: &[u8]) -> Option<Hold>
         return Some(Hold::Resume);
     }
     venue_hold(names, line)
+}
+
+/// That no venue has this name.
+fn no_venue(word: &[u8]) -> Option<LineFault>
+    ensures { result ≡ no_venue word.now }
+{
+    Some(LineFault::NoVenue(shown(word)))
+}
+
+/// What is wrong with a line that asks something of a venue, where the desk has none of that name.
+pub(crate) fn hold_fault(line: &[u8]) -> Option<LineFault>
+    ensures { result ≡ hold_fault line.now }
+{
+    if line.starts_with(b"pause ") {
+        return no_venue(from(line, 6));
+    }
+    if line.starts_with(b"resume ") {
+        return no_venue(from(line, 7));
+    }
+    None
 }

@@ -3,10 +3,16 @@
 ghost use Rattle.std.specs.Prelude.{◌≡◌, Some};
 ghost use Rattle.desk_talk.specs.HoldAnswer.{hold_json, hold_text};
 
+use desk_floor::{Floor, TalkFault};
 use desk_words::VenueName;
+use exec_collector::Accounts;
 use json_lines::Line;
+use kept_link::Telling;
+use release_lock::Run;
 use std::alloc::{AllocError, Global};
 use std::fmt;
+use std::io::Write;
+use std::sync::Wait;
 
 /// What a person who halts or pauses is answered.
 #[derive(Clone, Copy, Drop)]
@@ -69,4 +75,15 @@ impl<'a> Line for HoldAnswer<'a> {
             }
         }
     }
+}
+
+/// Says that a desk is halted whose day begins, as it was when an earlier life of the day ended.
+pub fn say_halted<L: Run, M: Accounts, W: Write + Drop, J: Telling>(
+    rt: &impl Wait,
+    floor: &Floor<L, M, W, J>,
+) -> Result<(), TalkFault> {
+    if floor.lock.is_halted() {
+        floor.voice.say(rt, &HoldAnswer::Halted)?;
+    }
+    Ok(())
 }

@@ -28,6 +28,8 @@ pub struct InputLines<I: Read + Drop> {
     line: Vec<u8>,
     // Whether the line is read in part.
     is_part: bool,
+    // Whether the last line needs its end too.
+    needs_ends: bool,
     number: u64,
 }
 
@@ -36,7 +38,9 @@ pub struct InputLines<I: Read + Drop> {
 pub enum Next {
     /// A line.
     Line,
-    /// None yet.
+    /// A part of one.
+    Part,
+    /// Nothing.
     Nothing,
     /// The input has ended.
     End,
@@ -45,7 +49,7 @@ pub enum Next {
 /// How far a line was read.
 #[derive(Clone, Copy)]
 enum Reach {
-    /// To its end, or to that of the input behind some of it.
+    /// To its end, or to that of the input behind some of it, if that is a line.
     Line,
     /// In part.
     Part,
@@ -54,14 +58,33 @@ enum Reach {
 }
 
 impl<I: Read + Drop> InputLines<I> {
-    /// The lines of an input of which none was read.
+    /// The lines of an input of which none was read. The last one needs no end.
     pub fn new(net: &impl Net, alloc: Global, input: DeskInput<I>) -> io::Result<InputLines<I>> {
+        InputLines::with_ends(net, alloc, input, false)
+    }
+
+    /// Those of a client that may be gone in the midst of one: a line without its end is none.
+    pub fn of_client(
+        net: &impl Net,
+        alloc: Global,
+        input: DeskInput<I>,
+    ) -> io::Result<InputLines<I>> {
+        InputLines::with_ends(net, alloc, input, true)
+    }
+
+    fn with_ends(
+        net: &impl Net,
+        alloc: Global,
+        input: DeskInput<I>,
+        needs_ends: bool,
+    ) -> io::Result<InputLines<I>> {
         let DeskInput { input, fd } = input;
         Ok(InputLines {
             readiness: Readiness::new(net, alloc, fd)?,
             input: BufReader::new(alloc, input)?,
             line: Vec::new(alloc),
             is_part: false,
+            needs_ends,
             number: 0,
         })
     }
@@ -89,27 +112,26 @@ impl<I: Read + Drop> InputLines<I> {
         !self.input.buffer().is_empty()
     }
 
-    /// Reads the next line; where none is there it waits for one, so long at most, or until the wait is ended. The last
-    /// one needs no end.
+    /// Reads on in the next line; where nothing is there it waits, so long at most, or until the wait is ended.
     pub fn next(&mut self, most: Duration) -> Result<Next, TalkFault> {
         if !self.is_part {
             self.line.clear();
         }
-        for _ in 0..u64::MAX {
-            if !self.has_more() && !self.readiness.wait(most) {
-                return Ok(Next::Nothing);
-            }
-            match self.read_on()? {
-                Reach::Part => self.is_part = true,
-                Reach::Line => {
-                    self.is_part = false;
-                    self.number = self.number.saturating_add(1);
-                    return Ok(Next::Line);
-                }
-                Reach::End => return Ok(Next::End),
-            }
+        if !self.has_more() && !self.readiness.wait(most) {
+            return Ok(Next::Nothing);
         }
-        Err(TalkFault::ReadFailed)
+        match self.read_on()? {
+            Reach::Part => {
+                self.is_part = true;
+                Ok(Next::Part)
+            }
+            Reach::Line => {
+                self.is_part = false;
+                self.number = self.number.saturating_add(1);
+                Ok(Next::Line)
+            }
+            Reach::End => Ok(Next::End),
+        }
     }
 
     /// Reads what is there of the line.
@@ -120,7 +142,7 @@ impl<I: Read + Drop> InputLines<I> {
             Err(error) => return Err(TalkFault::of_read(&error)),
         };
         if piece.is_empty() {
-            return Ok(if self.line.is_empty() {
+            return Ok(if self.line.is_empty() || self.needs_ends {
                 Reach::End
             } else {
                 Reach::Line

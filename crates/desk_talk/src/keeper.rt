@@ -1,8 +1,9 @@
 //! The keeper of a day: it tells what changes, and closes the day in order.
 
+use crate::callers::Callers;
 use crate::news::Told;
 use change_count::ChangeCount;
-use desk_floor::{Floor, Manner, TalkFault};
+use desk_floor::{Floor, TalkFault};
 use exec_collector::Accounts;
 use kept_link::Telling;
 use release_lock::Run;
@@ -38,14 +39,15 @@ pub fn keep<L: Run, M: Accounts, W: Write + Drop, J: Telling, R: Wait + Clock>(
     rt: &R,
     alloc: Global,
     floor: &Floor<L, M, W, J>,
+    callers: &Callers,
 ) {
     let mut told = Some(Told::new(alloc, floor.manner));
-    watch(rt, floor, &mut told, Until::Closing, None);
+    watch(rt, floor, callers, &mut told, Until::Closing, None);
     let patience = Some(floor.manner.patience);
-    watch(rt, floor, &mut told, Until::Resolved, patience);
-    tell(rt, floor, &mut told);
+    watch(rt, floor, callers, &mut told, Until::Resolved, patience);
+    tell(rt, floor, callers, &mut told);
     floor.stop();
-    watch(rt, floor, &mut told, Until::Ended, None);
+    watch(rt, floor, callers, &mut told, Until::Ended, None);
     if let Some(told) = &mut told {
         // No worker books any more.
         let _ = told.tell_executions(rt, floor);
@@ -87,19 +89,21 @@ fn is_over(clock: &impl Clock, begun: Option<Instant>, seconds: Option<u64>) -> 
 fn watch<L: Run, M: Accounts, W: Write + Drop, J: Telling, R: Wait + Clock>(
     rt: &R,
     floor: &Floor<L, M, W, J>,
+    callers: &Callers,
     told: &mut Option<Told>,
     until: Until,
     seconds: Option<u64>,
 ) {
     let begun = Instant::now(rt).ok();
-    let changes = awaited(floor, told.is_some(), until);
+    let tells = told.is_some() || callers.listens;
+    let changes = awaited(floor, tells, until);
     for _ in rt.forever() {
         let seen = changes.count();
         if is_reached(rt, floor, until) || is_over(rt, begun, seconds) {
             return;
         }
-        tell(rt, floor, told);
-        if has_come_meanwhile(rt, floor, until) {
+        tell(rt, floor, callers, told);
+        if has_come_meanwhile(rt, floor, callers, until) {
             return;
         }
         changes.wait(rt, seen, Duration::from_secs(LOOK_SECONDS));
@@ -128,43 +132,42 @@ fn awaited<L: Run, M: Accounts, W: Write + Drop, J: Telling>(
 fn has_come_meanwhile<L: Run, M: Accounts, W: Write + Drop, J: Telling, R: Wait + Clock>(
     rt: &R,
     floor: &Floor<L, M, W, J>,
+    callers: &Callers,
     until: Until,
 ) -> bool {
     let seen = floor.bells.turns().count();
     if is_reached(rt, floor, until) {
         return true;
     }
-    let most = Duration::from_millis(rest_of(floor.manner, until));
+    let are_told = floor.manner.tells_news || floor.manner.tells_executions;
+    let tells = are_told || callers.are_followed(rt);
+    let most = Duration::from_millis(rest_of(tells, until));
     floor.bells.turns().wait(rt, seen, most);
     false
 }
 
 /// How many milliseconds the keeper rests at most, unless the day takes a turn. Where it waits for the last share it
 /// looks as often as on a day that tells what changes.
-fn rest_of(manner: Manner, until: Until) -> u64 {
+fn rest_of(tells: bool, until: Until) -> u64 {
     match until {
         Until::Resolved => TELL_MILLIS,
-        Until::Closing | Until::Ended => {
-            if manner.tells_news || manner.tells_executions {
-                TELL_MILLIS
-            } else {
-                QUIET_MILLIS
-            }
-        }
+        Until::Closing | Until::Ended => { if tells { TELL_MILLIS } else { QUIET_MILLIS } }
     }
 }
 
-/// Tells what changed; where the output can't be written, nothing is told any more. What memory is wanted for is told
-/// at a later look.
+/// Tells what changed; where the output can't be written, nothing is told there any more. What memory is wanted for is
+/// told at a later look. The connections that follow the day are to tell it too.
 fn tell<L: Run, M: Accounts, W: Write + Drop, J: Telling>(
     rt: &impl Wait,
     floor: &Floor<L, M, W, J>,
+    callers: &Callers,
     told: &mut Option<Told>,
 ) {
+    callers.ring_followers(rt);
     let Some(news) = told else {
         return;
     };
-    match news.tell(rt, floor) {
+    match news.tell(rt, floor, &floor.voice) {
         Ok(()) | Err(TalkFault::OutOfMemory) => {}
         Err(_) => *told = None,
     }

@@ -5,11 +5,12 @@ ghost use Rattle.desk_news.specs.declared.news.News.TheVariants as news;
 ghost use Rattle.desk_floor.specs.Standing.{state_of};
 
 use crate::executions::ToldExecutions;
+use crate::told_sweeps::ToldSweeps;
 use day_sweeps::paid_sweep_now;
-use desk_floor::{Changes, Floor, Manner, Standing, TalkFault};
-use desk_news::{News, PaidSweep};
+use desk_floor::{Changes, Floor, Manner, Standing, TalkFault, Voice};
+use desk_news::News;
 use desk_words::VenueName;
-use exec_collector::Accounts;
+use exec_collector::{Accounts, Collector};
 use kept_link::Telling;
 use release_lock::Run;
 use std::alloc::Global;
@@ -21,12 +22,11 @@ use std::sync::Wait;
 pub struct Told {
     // How each venue was told to stand. That it is dialled is never told.
     venues: Vec<Standing>,
-    // What was told of each sweep, by its number.
-    sweeps: Vec<PaidSweep>,
+    sweeps: ToldSweeps,
     // The sweeps that changed since then.
     changes: Changes,
-    // Which executions were told.
-    executions: ToldExecutions,
+    // Which executions were told, where they are told at all.
+    executions: Option<ToldExecutions>,
     // Whether changes of venues and sweeps are to be told.
     tells_news: bool,
     // Whether each journal was told to be failing.
@@ -61,32 +61,23 @@ fn contradicted_news(name: &VenueName, legs: u64) -> News
     }
 }
 
-/// Whether the sweep at a place stands otherwise than it was told to, and notes how it stands.
-fn notes(told: &mut Vec<PaidSweep>, place: usize, sweep: PaidSweep) -> Result<bool, TalkFault> {
-    match told.get_mut(place) {
-        None => told.push(sweep)?,
-        Some(before) if *before == sweep => return Ok(false),
-        Some(before) => *before = sweep,
-    }
-    Ok(true)
-}
-
 /// Tells the sweep of this number with what was paid for it and what is disputed of it, if that differs from what was
 /// told of it, and notes it.
-fn tell_sweep<L: Run, M: Accounts, W: Write + Drop, J: Telling>(
+fn tell_sweep<L: Run, M: Accounts, W: Write + Drop, J: Telling, V: Write + Drop>(
     rt: &impl Wait,
     floor: &Floor<L, M, W, J>,
-    told: &mut Vec<PaidSweep>,
+    voice: &Voice<V>,
+    told: &mut ToldSweeps,
     number: u64,
 ) -> Result<(), TalkFault> {
-    let Some(place) = number.checked_sub(1) else {
+    if number == 0 {
         return Ok(());
-    };
+    }
     let Some(sweep) = paid_sweep_now(rt, &floor.collector, number) else {
         return Ok(());
     };
-    if notes(told, place as usize, sweep)? {
-        floor.voice.say(rt, &News::Sweep(sweep))?;
+    if told.notes(number, sweep)? {
+        voice.say(rt, &News::Sweep(sweep))?;
     }
     Ok(())
 }
@@ -96,10 +87,24 @@ impl Told {
     pub fn new(alloc: Global, manner: Manner) -> Told {
         Told {
             venues: Vec::new(alloc),
-            sweeps: Vec::new(alloc),
+            sweeps: ToldSweeps::of_all(alloc),
             changes: Changes::new(alloc),
-            executions: ToldExecutions::new(alloc, manner.tells_executions),
+            executions: Some(ToldExecutions::new(alloc, manner.tells_executions)),
             tells_news: manner.tells_news,
+            journals: Vec::new(alloc),
+            contradicted: Vec::new(alloc),
+        }
+    }
+
+    /// Nothing yet, to a client that follows the day from now on: venues, journals and sweeps are told, and no
+    /// executions. It may wait for the book's lock.
+    pub fn from_now<M: Accounts>(rt: &impl Wait, alloc: Global, collector: &Collector<M>) -> Told {
+        Told {
+            venues: Vec::new(alloc),
+            sweeps: ToldSweeps::of_open(alloc),
+            changes: Changes::from_now(rt, alloc, collector),
+            executions: None,
+            tells_news: true,
             journals: Vec::new(alloc),
             contradicted: Vec::new(alloc),
         }
@@ -119,10 +124,11 @@ impl Told {
     }
 
     /// Tells that venues stand otherwise.
-    fn tell_venues<L: Run, M: Accounts, W: Write + Drop, J: Telling>(
+    fn tell_venues<L: Run, M: Accounts, W: Write + Drop, J: Telling, V: Write + Drop>(
         &mut self,
         rt: &impl Wait,
         floor: &Floor<L, M, W, J>,
+        voice: &Voice<V>,
     ) -> Result<(), TalkFault> {
         for (place, name) in floor.names.iter().enumerate() {
             let Some(seen) = floor.seen(place) else {
@@ -133,26 +139,25 @@ impl Told {
                     Some(view) => view.said(rt),
                     None => None,
                 };
-                floor
-                    .voice
-                    .say(rt, &venue_news(name, seen.standing, seen.seconds, said))?;
+                voice.say(rt, &venue_news(name, seen.standing, seen.seconds, said))?;
             }
         }
         Ok(())
     }
 
     /// Tells that journals can't be written, or can again. What wasn't told for lack of memory is told the next time.
-    fn tell_journals<L: Run, M: Accounts, W: Write + Drop, J: Telling>(
+    fn tell_journals<L: Run, M: Accounts, W: Write + Drop, J: Telling, V: Write + Drop>(
         &mut self,
         rt: &impl Wait,
         floor: &Floor<L, M, W, J>,
+        voice: &Voice<V>,
     ) -> Result<(), TalkFault> {
         for _ in self.journals.len()..floor.journals.len() {
             self.journals.push(false)?;
         }
         for (journal, was_failing) in floor.journals.iter().zip(self.journals.iter_mut()) {
             if let Some(news) = journal.news(*was_failing) {
-                floor.voice.say(rt, &news)?;
+                voice.say(rt, &news)?;
                 *was_failing = news.is_failing;
             }
         }
@@ -161,10 +166,11 @@ impl Told {
 
     /// Tells each venue whose exchange contradicted itself on more legs. What wasn't told for lack of memory is told
     /// the next time.
-    fn tell_contradictions<L: Run, M: Accounts, W: Write + Drop, J: Telling>(
+    fn tell_contradictions<L: Run, M: Accounts, W: Write + Drop, J: Telling, V: Write + Drop>(
         &mut self,
         rt: &impl Wait,
         floor: &Floor<L, M, W, J>,
+        voice: &Voice<V>,
     ) -> Result<(), TalkFault> {
         for _ in self.contradicted.len()..floor.views.len() {
             self.contradicted.push(0)?;
@@ -177,17 +183,18 @@ impl Told {
             if legs == *told {
                 continue;
             }
-            floor.voice.say(rt, &contradicted_news(name, legs))?;
+            voice.say(rt, &contradicted_news(name, legs))?;
             *told = legs;
         }
         Ok(())
     }
 
     /// Tells each sweep that stands otherwise.
-    fn tell_sweeps<L: Run, M: Accounts, W: Write + Drop, J: Telling>(
+    fn tell_sweeps<L: Run, M: Accounts, W: Write + Drop, J: Telling, V: Write + Drop>(
         &mut self,
         rt: &impl Wait,
         floor: &Floor<L, M, W, J>,
+        voice: &Voice<V>,
     ) -> Result<(), TalkFault> {
         let Told {
             venues: _,
@@ -200,36 +207,40 @@ impl Told {
         } = self;
         changes.look(rt, &floor.collector)?;
         for number in changes.sweeps() {
-            tell_sweep(rt, floor, sweeps, *number)?;
+            tell_sweep(rt, floor, voice, sweeps, *number)?;
         }
         changes.told();
         Ok(())
     }
 
-    /// Tells the executions that weren't told yet and are to be: all, or those that the book didn't take.
+    /// Tells the executions on the output that weren't told yet and are to be: all, or those that the book didn't take.
     pub fn tell_executions<L: Run, M: Accounts, W: Write + Drop, J: Telling>(
         &mut self,
         rt: &impl Wait,
         floor: &Floor<L, M, W, J>,
     ) -> Result<(), TalkFault> {
-        self.executions.tell(rt, floor)
+        match &mut self.executions {
+            Some(executions) => executions.tell(rt, floor),
+            None => Ok(()),
+        }
     }
 
-    /// Tells what changed: of venues until the workers are told to stop. What wasn't told for lack of memory is told
-    /// the next time, if it differs then from what was told before.
-    pub fn tell<L: Run, M: Accounts, W: Write + Drop, J: Telling>(
+    /// Tells on this voice what changed: of venues until the workers are told to stop. What wasn't told for lack of
+    /// memory is told the next time, if it differs then from what was told before.
+    pub fn tell<L: Run, M: Accounts, W: Write + Drop, J: Telling, V: Write + Drop>(
         &mut self,
         rt: &impl Wait,
         floor: &Floor<L, M, W, J>,
+        voice: &Voice<V>,
     ) -> Result<(), TalkFault> {
-        self.tell_journals(rt, floor)?;
-        self.tell_contradictions(rt, floor)?;
+        self.tell_journals(rt, floor, voice)?;
+        self.tell_contradictions(rt, floor, voice)?;
         if self.tells_news && !floor.signals.are_stopped() {
-            self.tell_venues(rt, floor)?;
+            self.tell_venues(rt, floor, voice)?;
         }
         self.tell_executions(rt, floor)?;
         if self.tells_news {
-            self.tell_sweeps(rt, floor)?;
+            self.tell_sweeps(rt, floor, voice)?;
         }
         Ok(())
     }

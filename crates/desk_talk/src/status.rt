@@ -1,12 +1,13 @@
 //! What `status` is answered.
 
-use crate::open_sweeps::OpenSweeps;
+use crate::caller::answer;
+use crate::callers::Callers;
 use clock::Clock;
 use day_executions::unbooked_now;
 use day_log::LineLog;
 use day_sweeps::paid_sweep_now;
 use desk_executions::{UnbookedCounts, UnbookedStatus};
-use desk_floor::{Floor, TalkFault, venue_status};
+use desk_floor::{Floor, TalkFault, Voice, venue_status};
 use desk_news::Status;
 use exec_collector::Accounts;
 use kept_link::Telling;
@@ -40,30 +41,39 @@ fn unbooked_at<L: Run, M: Accounts, W: Write + Drop, J: Telling>(
 }
 
 /// Answers `status`: a line for each venue, one for each of which the book didn't take something, and one for each
-/// sweep that isn't whole. It looks at what changed since the last one.
-pub fn tell_status<'a, L: Run, M: Accounts, W: Write + Drop, J: Telling, R: Wait, C: Clock + Drop>(
+/// sweep that isn't whole. It looks at what changed since the last one of all callers.
+pub fn tell_status<'a, L, M, W, J, V, R, C>(
     rt: &'a R,
     floor: &Floor<L, M, W, J>,
-    open: &mut OpenSweeps,
+    callers: &Callers,
+    voice: &Voice<V>,
     log: &mut LineLog<'a, R, C>,
-) -> Result<(), TalkFault> {
+) -> Result<(), TalkFault>
+where
+    L: Run,
+    M: Accounts,
+    W: Write + Drop,
+    J: Telling,
+    V: Write + Drop,
+    R: Wait,
+    C: Clock + Drop,
+{
     for place in 0..floor.names.len() {
         if let Some(status) = venue_status(rt, floor, place) {
-            floor.answer(rt, log, &Status::Venue(status))?;
+            answer(rt, floor, voice, log, &Status::Venue(status))?;
         }
     }
     for place in 0..floor.names.len() {
         if let Some(status) = unbooked_at(rt, floor, place) {
-            floor.answer(rt, log, &status)?;
+            answer(rt, floor, voice, log, &status)?;
         }
     }
-    open.look(rt, &floor.collector)?;
-    for number in open.numbers() {
-        if *number == 0 {
+    for number in callers.open_sweeps(rt, &floor.collector)? {
+        if number == 0 {
             continue;
         }
-        if let Some(sweep) = paid_sweep_now(rt, &floor.collector, *number) {
-            floor.answer(rt, log, &Status::Sweep(sweep))?;
+        if let Some(sweep) = paid_sweep_now(rt, &floor.collector, number) {
+            answer(rt, floor, voice, log, &Status::Sweep(sweep))?;
         }
     }
     Ok(())

@@ -17,7 +17,7 @@ use Rattle.worker_restart.specs.LivesByBytes.{IsMadeAgain}
 use Rattle.worker_restart.proofs.ByBytes.{found_allowed, the_day_by_bytes_over_lives}
 use Rattle.desk_venues.specs.Starts.{any_wording}
 use Rattle.desk_venues.specs.Venues.{desk_end}
-use Rattle.desk_run.specs.Audited.{new_at, IsBegun, AreBegun}
+use Rattle.desk_day.specs.Audited.{new_at, IsBegun, AreBegun}
 use Rattle.desk_theorem.specs.DeskOverLives.{TheDeskTheoremOverLives}
 use Rattle.desk_theorem.proofs.DeskDay.{ran_there, at_map, words}
 

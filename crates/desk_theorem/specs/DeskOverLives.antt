@@ -21,7 +21,7 @@ use Rattle.venue_words.specs.declared.venue_dialect.VenueDialect.{VenueDialect}
 use Rattle.venue_words.specs.Dialect.{dialect_of}
 use Rattle.desk_venues.specs.Starts.{any_wording}
 use Rattle.desk_venues.specs.Venues.{desk_end}
-use Rattle.desk_run.specs.Audited.{IsBegun, IsDayOver}
+use Rattle.desk_day.specs.Audited.{IsBegun, IsDayOver}
 
 -- the worker at a place began with what its journal's lines say, ran, and left what stands there. Whatever lives the
 -- venue had before, of which these lines are what was found of them, and whatever its exchange did, it is safe over all

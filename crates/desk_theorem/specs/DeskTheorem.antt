@@ -20,7 +20,7 @@ use Rattle.worker_line.specs.WorkerTheorem.{works_in}
 use Rattle.desk_venues.specs.Starts.{any_wording}
 use Rattle.venue_words.specs.Dialect.{dialect_of}
 use Rattle.desk_venues.specs.Venues.{desk_end}
-use Rattle.desk_run.specs.Audited.{IsDeskDay}
+use Rattle.desk_day.specs.Audited.{IsDeskDay}
 
 -- how the worker of the venue at a place begins: nothing went over its link
 abbrev pub start_at : ℕ → Venue → WorkerParts

@@ -11,4 +11,4 @@
 
 mod threads;
 
-pub use threads::{Cast, Ended, in_threads};
+pub use threads::in_threads;

@@ -9,11 +9,11 @@ ghost use Rattle.session_worker.specs.Places.{place};
 use clock::Clock;
 use day_log::{FileWriter, write_until};
 use desk_floor::Floor;
-use desk_serve::PageServer;
-use desk_talk::keep;
+use desk_serve::{Cast, Ended, PageServer};
+use desk_talk::{Callers, keep};
 use desk_venues::{DayFault, Serve, run_workers};
 use exec_collector::Accounts;
-use kept_link::{Telling, Untold};
+use kept_link::Telling;
 use link::Link;
 use release_lock::Run;
 use session_worker::{Worker, WorkerEnd};
@@ -27,33 +27,15 @@ use std::thread::{JoinHandle, Threads, join};
 use std::{thread, time};
 use venue_words::VenueDialect;
 
-/// Who takes part in a day.
-#[derive(Drop)]
-pub struct Cast<X, K: Link, C: Clock + Drop, L: Run, M: Accounts, J: Telling = Untold> {
-    pub exchanges: Vec<X>,
-    pub workers: Vec<Worker<VenueDialect, K, C, L, M, J>>,
-    /// What serves the page; none where it isn't served.
-    pub servers: Vec<PageServer>,
-    /// What writes the logs; none where none is kept.
-    pub writers: Vec<FileWriter<File>>,
-}
-
-/// What its threads leave.
-#[derive(Drop)]
-pub struct Ended<K: Link, L: Run, M: Accounts, J: Telling = Untold> {
-    pub workers: Vec<WorkerEnd<K, L, M, J>>,
-    /// The clients that followed the day to its end.
-    pub followers: Vec<TcpStream>,
-}
-
 /// Runs a day, beside those who call: its exchanges, the servers of its page, the writer of its logs and its workers,
 /// each in a thread of its own, and its keeper in this one. A worker takes so many turns at most in which there is
-/// nothing to do. Once the workers have ended the others are stopped; the writer writes what waits before it ends.
-/// Where a thread is refused, those that run are told so.
+/// nothing to do. Once the workers have ended the others are stopped, and the callers look that the day is over; the
+/// writer writes what waits before it ends. Where a thread is refused, those that run are told so.
 pub fn in_threads<X, K, C, L, M, W, J, R>(
     rt: &R,
     alloc: Global,
     floor: &Floor<L, M, W, J>,
+    callers: &Callers,
     cast: Cast<X, K, C, L, M, J>,
     turn_limit: u64,
 ) -> Result<Ended<K, L, M, J>, DayFault>
@@ -85,7 +67,7 @@ where
             ensures workers { IfOk result (λ ends. map (λ e. place e.parts) ends.items
                 ≡ map (λ w. place w.parts) workers.items) }
             ensures only { IfErr result IsNoMismatch }
-        { run_dispatcher(rt, alloc, floor, workers, turn_limit) },
+        { run_dispatcher(rt, alloc, floor, callers, workers, turn_limit) },
     );
     let followers = served?;
     let workers = ended?;
@@ -175,11 +157,12 @@ fn serve_exchange<X: Serve, L: Run, M: Accounts, W: Write + Drop, J: Telling>(
 }
 
 /// Runs the dispatcher once the exchanges are served: its workers and its keeper. Once both have ended the exchanges
-/// are stopped. Where the exchanges aren't served the day is given up.
+/// are stopped, and the callers look how the day stands. Where the exchanges aren't served the day is given up.
 fn run_dispatcher<K, C, L, M, W, J, R>(
     rt: &R,
     alloc: Global,
     floor: &Floor<L, M, W, J>,
+    callers: &Callers,
     workers: Vec<Worker<VenueDialect, K, C, L, M, J>>,
     turn_limit: u64,
 ) -> Result<Vec<WorkerEnd<K, L, M, J>>, DayFault>
@@ -204,9 +187,10 @@ where
     let (worked, kept) = join(
         rt,
         || run_workers(rt, alloc, floor, workers, turn_limit),
-        || run_keeper(rt, alloc, floor),
+        || run_keeper(rt, alloc, floor, callers),
     );
     floor.finish();
+    callers.ring_all(rt);
     let ends = worked?;
     kept?;
     Ok(ends)
@@ -217,6 +201,7 @@ fn run_keeper<L, M, W, J, R>(
     rt: &R,
     alloc: Global,
     floor: &Floor<L, M, W, J>,
+    callers: &Callers,
 ) -> Result<(), DayFault>
 where
     L: Run,
@@ -230,7 +215,7 @@ where
         floor.give_up();
         return Err(DayFault::NoThread);
     }
-    keep(rt, alloc, floor);
+    keep(rt, alloc, floor, callers);
     Ok(())
 }
 

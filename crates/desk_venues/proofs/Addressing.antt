@@ -10,13 +10,13 @@ use Rattle.desk_venues.specs.Addresses.{IsAt, AreAt, own_addr, own_addrs}
 -- the first link dials where the first venue is, and the others where the other venues are
 pub at_first : {K : Type 0} (goal : K → Goal) (venues left : List Venue) (venue : Venue) (links more : List K)
     (link : K) → venues ≡ venue ∷ left → links ≡ link ∷ more → AreAt venues (map goal links)
-    → IsAt venue.endpoint (goal link) × AreAt left (map goal more)
+    → IsAt venue.endpoint venue.backups (goal link) × AreAt left (map goal more)
 at_first {K} goal venues left venue links more link first next at =
     let there = subst (λ (ks : List K). AreAt venues (map goal ks)) next at in
     subst (λ (vs : List Venue). AreAt vs (map goal (link ∷ more))) first there
 
 at_more : (venues : List Venue) (goals : List Goal) (venue : Venue) (goal : Goal) → AreAt venues goals
-    → IsAt venue.endpoint goal → AreAt (venues ++ venue ∷ []) (goals ++ goal ∷ [])
+    → IsAt venue.endpoint venue.backups goal → AreAt (venues ++ venue ∷ []) (goals ++ goal ∷ [])
 at_more [] [] venue goal at one = (one, tt)
 at_more [] (first ∷ goals) venue goal at one = absurd at
 at_more (first ∷ venues) [] venue goal at one = absurd at
@@ -44,7 +44,7 @@ pub places_more : {E : Type 0} (address : E → SocketAddr) (venues : List Venue
     → venue ≡ get_or venues i venue
     → now ≡ goals ++ goal ∷ []
     → after ≡ before ++ option_to_list one
-    → IsAt venue.endpoint goal
+    → IsAt venue.endpoint venue.backups goal
     → option_map address one ≡ own_addr venue.endpoint goal
     → AreAt (take i venues) goals
     → map address before ≡ own_addrs (take i venues) goals

@@ -1,5 +1,7 @@
 mod Addressing
+mod Hosting
 mod NoMismatch
 mod Plans
 mod Standing
 pub mod Starting
+pub mod Wearing

@@ -2,7 +2,7 @@
 use Rattle.session_worker.specs.declared.run_fault.RunFault.{RunFault}
 use Rattle.session_worker.specs.declared.run_fault.RunFault.TheVariants as run
 use Rattle.desk_venues.specs.declared.day_fault.DayFault.{DayFault}
-use Rattle.desk_venues.specs.declared.day_fault.DayFault.TheVariants.{NoJournal, NoLogs, NoPage, NoSocket, NoThread, OutOfMemory}
+use Rattle.desk_venues.specs.declared.day_fault.DayFault.TheVariants.{NoJournal, NoLines, NoLogs, NoPage, NoSocket, NoThread, OutOfMemory}
 
 -- why the workers can't be run
 abbrev pub run_fault : RunFault → DayFault
@@ -14,6 +14,7 @@ abbrev pub IsNoMismatch : DayFault → Type 0
 IsNoMismatch (NoLogs fault) = Unit {0}
 IsNoMismatch (NoJournal refused) = Unit {0}
 IsNoMismatch NoPage = Unit {0}
+IsNoMismatch NoLines = Unit {0}
 IsNoMismatch NoSocket = Unit {0}
 IsNoMismatch NoThread = Unit {0}
 IsNoMismatch OutOfMemory = Unit {0}

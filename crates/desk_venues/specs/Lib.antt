@@ -1,4 +1,5 @@
 pub mod Addresses
+pub mod Dresses
 pub mod Faults
 pub mod Starts
 pub mod Venues

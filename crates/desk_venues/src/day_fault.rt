@@ -22,6 +22,9 @@ pub enum DayFault {
     /// The page can't be served at its address.
     #[error("no page")]
     NoPage,
+    /// Lines can't be taken at their address.
+    #[error("no lines")]
+    NoLines,
     /// No socket for a simulated exchange to listen on can be had.
     #[error("no socket")]
     NoSocket,

@@ -13,6 +13,7 @@ use crate::views::{Sight, first_sight};
 use crate::workers::{DeskWorker, new_links, new_workers};
 use desk_config::Venue;
 use desk_floor::Bells;
+use dressed_link::Secret;
 use exec_collector::Accounts;
 use kept_link::Telling;
 use release_lock::Run;
@@ -54,17 +55,19 @@ fn new_bells<'a, R: Net + Clock>(
 }
 
 /// Opens the venues of a day: an exchange for each that is simulated, the logs in the folder, if there is one, and a
-/// worker for each, with the start and the journal at its place. None has dialled. The exchange of the first venue,
-/// if it is simulated, cuts its connection once, behind message `cut`; at 0 none does.
+/// worker for each, with the password, the start and the journal at its place. None has dialled. The exchange of the
+/// first venue, if it is simulated, cuts its connection once, behind message `cut`; at 0 none does.
 pub fn open_venues<'a, L: Run, M: Accounts, R: Net + Files<File = File> + Wait + Clock, J: Telling>(
     rt: &'a R,
     alloc: Global,
     venues: &[Venue],
     cut: u64,
     folder: Option<LogFolder<'_>>,
+    secrets: Vec<Option<Secret>>,
     starts: Vec<Start<L, M>>,
     journals: Vec<J>,
 ) -> Result<OpenVenues<'a, L, M, R, J>, DayFault>
+    requires secrets { length secrets.items ≡ length venues.now }
     requires starts { length starts.items ≡ length venues.now }
     requires journals { length journals.items ≡ length venues.now }
     ensures plans { IfOk result (λ ready. map (λ e. e.acceptor.plan) ready.exchanges.items ≡ plans cut venues.now) }
@@ -79,7 +82,7 @@ pub fn open_venues<'a, L: Run, M: Accounts, R: Net + Files<File = File> + Wait +
     let sight = first_sight(rt, alloc, folder, venues)?;
     let mut bells = new_bells(alloc, exchanges.as_slice())?;
     let views = sight.views.as_slice();
-    let links = new_links(rt, alloc, goals, views, &mut bells)?;
+    let links = new_links(rt, alloc, venues, goals, secrets, views, &mut bells)?;
     let workers = new_workers(rt, alloc, venues, links, views, starts, journals)?;
     Ok(OpenVenues {
         sight,

@@ -64,14 +64,14 @@ fn open_place<'a, R: Net + Clock>(
 ) -> Result<(Goal, Option<Exchange<'a, R>>), DayFault>
     ensures plan { IfOk result (λ opened. option_map (λ e. e.acceptor.plan) opened.1
         ≡ plan_in cut venue.now.endpoint) }
-    ensures at { IfOk result (λ opened. IsAt venue.now.endpoint opened.0) }
+    ensures at { IfOk result (λ opened. IsAt venue.now.endpoint venue.now.backups opened.0) }
     ensures own { IfOk result (λ opened. option_map (λ e. e.addr) opened.1
         ≡ own_addr venue.now.endpoint opened.0) }
     ensures only { IfErr result IsNoMismatch }
 {
     match &venue.endpoint {
         Endpoint::At(address) => {
-            let hosts = hosts_of(alloc, address)?;
+            let hosts = hosts_of(alloc, address, &venue.backups)?;
             Ok((Goal::Hosts(hosts), None))
         }
         Endpoint::Simulated(fill) => {

@@ -2,20 +2,24 @@
 
 ghost use Rattle.std.specs.Prelude.{◌≡◌, [], length, Some, IfOk, IfErr, map};
 ghost use Rattle.std.specs.List.{All};
+ghost use Rattle.dressed_link.specs.Links.{dress_on, wire_over};
 ghost use Rattle.desk_venues.specs.Faults.{IsNoMismatch};
 ghost use Rattle.session_worker.specs.Ends.{AllRan};
 ghost use Rattle.session_worker.specs.Places.{place};
 ghost use Rattle.session_worker.specs.Restoring.{worker_from};
 ghost use Rattle.desk_venues.specs.Addresses.{IsAt, AreAt};
+ghost use Rattle.desk_venues.specs.Dresses.{AllWear, Wears, venue_dresses, worn};
 ghost use Rattle.desk_venues.specs.Starts.{any_wording, workers_from};
 ghost use Rattle.venue_words.specs.Dialect.{dialect_of};
 
 use crate::day_fault::DayFault;
+use crate::dresses::venue_dress;
 use crate::session::desk_end;
 use clock::{Clock, UtcClock};
 use day_log::{LoggedLink, Recorder};
 use desk_config::Venue;
 use desk_floor::{Bells, Floor, VenueView};
+use dressed_link::{Dress, DressedLink, Secret};
 use exec_collector::Accounts;
 use kept_link::Telling;
 use link::{Goal, Link, Poller, Rest, TcpLink};
@@ -30,8 +34,8 @@ use std::thread::Threads;
 use std::time;
 use venue_words::VenueDialect;
 
-/// The link of a venue's worker, whose messages are logged.
-pub type DeskLink<'a, R> = LoggedLink<'a, R, TcpLink<'a, R>, UtcClock<'a, R>>;
+/// The link of a venue's worker, whose messages are logged as the session writes them, and dressed below the log.
+pub type DeskLink<'a, R> = LoggedLink<'a, R, DressedLink<TcpLink<'a, R>>, UtcClock<'a, R>>;
 
 /// The worker of a venue.
 pub type DeskWorker<'a, R, L, M, J> = Worker<
@@ -43,32 +47,46 @@ pub type DeskWorker<'a, R, L, M, J> = Worker<
     J,
 >;
 
-/// Links to these goals, in order, each seen in the view at its place. The bell of each is added to these.
+/// Links to these goals of venues, in order, each with the dress of its venue and the password at its place, and seen
+/// in the view at its place. The bell of each is added to these.
 pub fn new_links<'a, R: Net + Wait + time::Clock>(
     rt: &'a R,
     alloc: Global,
+    venues: &[Venue],
     goals: Vec<Goal>,
+    secrets: Vec<Option<Secret>>,
     views: &[VenueView],
     bells: &mut Bells,
 ) -> Result<Vec<DeskLink<'a, R>>, DayFault>
-    requires views { length views.now ≡ length goals.items }
-    ensures goals { IfOk result (λ links. map (λ l. l.link.goal) links.items ≡ goals.items) }
-    ensures new { IfOk result (λ links. All (λ l. l.link.told.traffic ≡ []) links.items) }
+    requires goals { length goals.items ≡ length venues.now }
+    requires secrets { length secrets.items ≡ length venues.now }
+    requires views { length views.now ≡ length venues.now }
+    ensures goals { IfOk result (λ links. map (λ l. l.link.link.goal) links.items ≡ goals.items) }
+    ensures dresses { IfOk result (λ links. map (λ l. dress_on l.link.dresser) links.items
+        ≡ map worn (venue_dresses venues.now secrets.items)) }
+    ensures new { IfOk result (λ links.
+        All (λ l. wire_over l.link.dresser (Some l.link.link.told.traffic) ≡ Some []) links.items) }
     ensures only { IfErr result IsNoMismatch }
 {
     let mut links = Vec::new(alloc);
     let mut goals = VecDeque::from(goals);
-    for view in views {
+    let mut secrets = VecDeque::from(secrets);
+    for venue in venues {
         let Some(goal) = goals.pop_front() else {
             unreachable!()
         };
-        links.push(new_link(rt, alloc, goal, view, bells)?)?;
+        let Some(secret) = secrets.pop_front() else {
+            unreachable!()
+        };
+        let dress = venue_dress(alloc, venue, secret)?;
+        let view = &views[links.len()];
+        links.push(new_link(rt, alloc, goal, dress, view, bells)?)?;
     }
     Ok(links)
 }
 
 /// The workers of these venues, in order, each with the link, the start and the journal at its place, seen in its view.
-/// Each link dials its venue's addresses.
+/// Each link dials its venue's addresses, and puts its venue's dress on.
 pub fn new_workers<'a, L: Run, M: Accounts, R: Net + Wait + time::Clock, J: Telling>(
     rt: &'a R,
     alloc: Global,
@@ -79,8 +97,9 @@ pub fn new_workers<'a, L: Run, M: Accounts, R: Net + Wait + time::Clock, J: Tell
     journals: Vec<J>,
 ) -> Result<Vec<DeskWorker<'a, R, L, M, J>>, DayFault>
     requires links { length links.items ≡ length venues.now }
-    requires at { AreAt venues.now (map (λ l. l.link.goal) links.items) }
-    requires new { All (λ l. l.link.told.traffic ≡ []) links.items }
+    requires at { AreAt venues.now (map (λ l. l.link.link.goal) links.items) }
+    requires dressed { AllWear venues.now (map (λ l. dress_on l.link.dresser) links.items) }
+    requires new { All (λ l. wire_over l.link.dresser (Some l.link.link.told.traffic) ≡ Some []) links.items }
     requires views { length views.now ≡ length venues.now }
     requires starts { length starts.items ≡ length venues.now }
     requires journals { length journals.items ≡ length venues.now }
@@ -108,8 +127,8 @@ pub fn new_workers<'a, L: Run, M: Accounts, R: Net + Wait + time::Clock, J: Tell
     Ok(workers)
 }
 
-/// The worker of a venue over a link to its addresses, with this start and journal, which tells on the board of this
-/// view.
+/// The worker of a venue over a link to its addresses with its dress, with this start and journal, which tells on the
+/// board of this view.
 fn new_worker<'a, L: Run, M: Accounts, R: Net + Wait + time::Clock, J: Telling>(
     rt: &'a R,
     alloc: Global,
@@ -119,8 +138,9 @@ fn new_worker<'a, L: Run, M: Accounts, R: Net + Wait + time::Clock, J: Telling>(
     start: Start<L, M>,
     journal: J,
 ) -> Result<DeskWorker<'a, R, L, M, J>, AllocError>
-    requires link { link.link.told.traffic ≡ [] }
-    requires at { IsAt venue.now.endpoint link.link.goal }
+    requires link { wire_over link.link.dresser (Some link.link.link.told.traffic) ≡ Some [] }
+    requires at { IsAt venue.now.endpoint venue.now.backups link.link.link.goal }
+    requires dressed { Wears venue.now (dress_on link.link.dresser) }
     ensures { IfOk result (λ worker. worker ≡ record {
       dialect = dialect_of venue.now.words;
       parts = worker_from start (Some []) (J.told journal);
@@ -134,17 +154,19 @@ fn new_worker<'a, L: Run, M: Accounts, R: Net + Wait + time::Clock, J: Telling>(
     Ok(worker.telling_on(board).reopening(venue.session.reopen))
 }
 
-/// A link to a goal, which tells in this view why it can't be dialled, and whose bell is added to these. Its
-/// messages are logged where the view has a log.
+/// A link to a goal with this dress, which tells in this view why it can't be dialled, and whose bell is added to
+/// these. Its messages are logged where the view has a log.
 fn new_link<'a, R: Net + Wait + time::Clock>(
     rt: &'a R,
     alloc: Global,
     goal: Goal,
+    dress: Dress,
     view: &VenueView,
     bells: &mut Bells,
 ) -> Result<DeskLink<'a, R>, DayFault>
-    ensures goal { IfOk result (λ link. link.link.goal ≡ goal) }
-    ensures traffic { IfOk result (λ link. link.link.told.traffic ≡ []) }
+    ensures goal { IfOk result (λ link. link.link.link.goal ≡ goal) }
+    ensures dress { IfOk result (λ link. dress_on link.link.dresser ≡ worn dress) }
+    ensures new { IfOk result (λ link. wire_over link.link.dresser (Some link.link.link.told.traffic) ≡ Some []) }
     ensures only { IfErr result IsNoMismatch }
 {
     let last_dial = view.last_dial()?;
@@ -157,6 +179,7 @@ fn new_link<'a, R: Net + Wait + time::Clock>(
     }
     let mut link = TcpLink::to(rt, goal, poller, Rest::Sleep);
     link.tell_on(last_dial);
+    let link = DressedLink::new(alloc, link, dress);
     Ok(LoggedLink::new(link, recorder))
 }
 

@@ -1,21 +1,11 @@
 -- The lines of the file that is being written.
 use Rattle.std.proofs.Common.{◌≡◌, ℕ, ◌+◌, ◌-◌, ◌≤◌, Bool, true, false, ltb, List, [], ◌∷◌, ◌++◌, length, map, drop, refl, sym, ap, ◌∙◌, arith, length-append}
-use Rattle.std.specs.Prelude.{None, Vec}
+use Rattle.std.specs.Prelude.{Vec}
 use Rattle.std.specs.declared.alloc.Global.{Global}
 use Rattle.std.proofs.lemmas.Bool.{le-ltb, lt-ltb}
 use Rattle.std.proofs.lemmas.List.{drop_all, drop-append-le, length-map, map-append}
-use Rattle.journal_tape.specs.Told.{LinesTold, all_kept, next_line}
+use Rattle.journal_tape.specs.Told.{LinesTold, all_kept}
 use Rattle.journal_folder.specs.NextFile.{IsNextFile, next_number}
-
--- where no line is prepared
-pub no_next : (has : Bool) (line : List ℕ) → next_line has line ≡ None → has ≡ false
-no_next true line none = cc
-no_next false line none = refl
-
-pub both_none : (one other : Bool) (line more : List ℕ) → one ≡ false → other ≡ false
-    → next_line one line ≡ next_line other more
-both_none one other line more none also =
-    ap (λ (b : Bool). next_line b line) none ∙ sym (ap (λ (b : Bool). next_line b more) also)
 
 -- no line is behind those that are kept
 pub none_behind : (before kept : ℕ) (lines : List (List ℕ)) → kept ≡ before + length lines → drop (kept - before) lines ≡ []

@@ -1,7 +1,7 @@
 //! A journal in files.
 
-ghost use Rattle.std.specs.Prelude.{◌≡◌, ◌<◌, ◌≤◌, ◌+◌, ◌-◌, ◌++◌, ◌∷◌, [], true, false, drop, length, OnOk, IfOk, map, vec_len, vec_capacity};
-ghost use Rattle.journal_tape.specs.Told.{all_kept, next_line, no_lines};
+ghost use Rattle.std.specs.Prelude.{◌≡◌, ◌≤◌, ◌+◌, ◌-◌, ◌++◌, ◌∷◌, [], true, false, drop, length, OnOk, IfOk, map};
+ghost use Rattle.journal_tape.specs.Told.{all_kept, no_lines};
 ghost use Rattle.journal_folder.specs.Head.{head_text};
 ghost use Rattle.journal_folder.specs.NextFile.{IsNextFile, next_number};
 
@@ -14,8 +14,8 @@ use crate::listed::journal_path;
 use crate::room::room_for;
 use journal_tape::{Journal, JournalFault, JournalWriter, Told};
 use std::alloc::Global;
+use std::fs;
 use std::fs::{File, Files};
-use std::{fs, mem};
 
 /// Where the files of a journal are, and how they are made.
 #[derive(Drop)]
@@ -61,12 +61,8 @@ pub struct FolderJournal<'a, R: Files<File = File>> {
     kept: usize,
     next_file: NextFile,
     waiting: Vec<Vec<u8>>,
-    next: Vec<u8>,
-    has_next: bool,
     pub told: Told,
     pub writer: JournalWriter<FileTape>,
-    pub ghost next_is: { next_line has_next next.items ≡ next_line writer.has_next writer.next.items },
-    pub ghost next_fits: { has_next ≡ true → vec_len waiting < vec_capacity waiting },
     pub ghost told_is: { told.lines.unkept ≡ writer.told.lines.unkept },
     pub ghost waiting_is: { map (λ v. v.items) waiting.items ≡ writer.told.lines.unkept },
     pub ghost counted: { kept ≡ before + length told.lines.kept },
@@ -122,7 +118,6 @@ impl<'a, R: Files<File = File>> Place<'a, R> {
     ) -> Result<JournalWriter<FileTape>, JournalFault>
         ensures head { IfOk result (λ writer. writer.told.lines.kept ≡ head_text file after self.now.words.now ∷ []) }
         ensures unkept { IfOk result (λ writer. writer.told.lines.unkept ≡ []) }
-        ensures none { IfOk result (λ writer. writer.has_next ≡ false) }
     {
         let Ok(path) = journal_path(self.alloc, self.folder, self.name, file) else {
             return Err(JournalFault::OutOfMemory);
@@ -146,12 +141,10 @@ impl<'a, R: Files<File = File>> Place<'a, R> {
 }
 
 /// Tells lines to a journal that was told none.
-#[tactic(auto, using(crate::proofs::Files::no_next))]
 fn tell_all(writer: &mut JournalWriter<FileTape>, lines: &[Vec<u8>]) -> Result<(), JournalFault>
     ensures told { OnOk result (writer.new.told.lines.unkept
         ≡ writer.old.told.lines.unkept ++ map (λ v. v.items) lines.now) }
     ensures kept { writer.new.told.lines.kept ≡ writer.old.told.lines.kept }
-    ensures none { OnOk result (writer.old.has_next ≡ false → writer.new.has_next ≡ false) }
 {
     for line in lines {
         writer.tell(line.as_slice())?;
@@ -206,29 +199,16 @@ impl<'a, R: Files<File = File>> FolderJournal<'a, R> {
                 making,
             },
             waiting: Vec::new(alloc),
-            next: Vec::new(alloc),
-            has_next: false,
             told: Told::new(),
             writer,
         })
     }
 
-    /// What was prepared is forgotten.
-    fn forget(&mut self)
-        ensures none { self.new.has_next ≡ false }
-        ensures told { self.new.told.lines ≡ self.old.told.lines }
-    {
-        self.has_next = false;
-        self.writer.forget();
-    }
-
     /// Begins the next file, with the lines that aren't kept. It has the number of the last one as long as that has no
     /// line behind its head: so a disk that is full gets no file for each try.
     fn begin_next(&mut self) -> Result<(), JournalFault>
-        ensures none { self.new.has_next ≡ false }
         ensures told { self.new.told.lines ≡ self.old.told.lines }
     {
-        self.forget();
         let number = self.next_file.number;
         let mut writer = self.place.begin(
             number,
@@ -247,9 +227,7 @@ impl<'a, R: Files<File = File>> FolderJournal<'a, R> {
     fn keep_here(&mut self) -> bool
         ensures kept { result ≡ true → self.new.told.lines ≡ all_kept self.old.told.lines }
         ensures same { result ≡ false → self.new.told.lines ≡ self.old.told.lines }
-        ensures none { self.new.has_next ≡ false }
     {
-        self.forget();
         let Some(kept) = self.kept.checked_add(self.waiting.len()) else {
             return false;
         };
@@ -271,32 +249,7 @@ impl<'a, R: Files<File = File>> Journal for FolderJournal<'a, R> {
 
     ghost unkept = { λ j. j.told.lines.unkept };
 
-    ghost prepared = { λ j. next_line j.has_next j.next.items };
-
-    fn prepare(&mut self, line: &[u8]) -> Result<(), JournalFault> {
-        self.forget();
-        self.next.clear();
-        if self.next.extend_from_slice(line).is_err() || self.waiting.reserve(1).is_err() {
-            return Err(JournalFault::OutOfMemory);
-        }
-        self.writer.prepare(line)?;
-        self.has_next = true;
-        Ok(())
-    }
-
-    fn tell_prepared(&mut self) {
-        if !self.has_next {
-            return;
-        }
-        self.has_next = false;
-        self.writer.tell_next();
-        let line = mem::replace(&mut self.next, Vec::new(self.place.alloc));
-        self.told = self.told.with(line.as_slice());
-        self.waiting.push_reserved(line);
-    }
-
     fn tell(&mut self, line: &[u8]) -> Result<(), JournalFault> {
-        self.forget();
         let Ok(copy) = line.to_vec(self.place.alloc) else {
             return Err(JournalFault::OutOfMemory);
         };

@@ -1,5 +1,5 @@
 -- The lines that were told to a journal, and those of them that are kept.
-use Rattle.std.specs.Prelude.{ℕ, Bool, true, false, List, [], ◌∷◌, ◌++◌, Option, Some, None, refl}
+use Rattle.std.specs.Prelude.{ℕ, Bool, List, [], ◌∷◌, ◌++◌, refl}
 use Rattle.std.specs.List.{list_all}
 use Rattle.journal_record.specs.Record.{is_line, lines_sum, lines_text}
 use Rattle.std.specs.Coded.{Coded, code_by, coded×, coded_ℕ, coded_list}
@@ -22,15 +22,6 @@ no_lines = record { kept = []; unkept = [] }
 -- a line is told
 abbrev pub with_line : List ℕ → LinesTold → LinesTold
 with_line line told = record { kept = told.kept; unkept = told.unkept ++ line ∷ [] }
-
--- lines are told, in order
-abbrev pub with_lines : List (List ℕ) → LinesTold → LinesTold
-with_lines lines told = record { kept = told.kept; unkept = told.unkept ++ lines }
-
--- the line that is prepared, if one is
-abbrev pub next_line : Bool → List ℕ → Option (List ℕ)
-next_line true line = Some line
-next_line false line = None
 
 -- how many bytes a record has beside its line
 abbrev pub beside_line : ℕ

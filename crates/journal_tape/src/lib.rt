@@ -4,8 +4,7 @@
 //! Promises:
 //! - The trait `Tape`: what its calls do to the bytes that a read gives, and to those that a crash may leave, at each
 //!   moment. No checksum is trusted; until a sync each byte that is written is the old one or the new one.
-//! - The trait `Journal`: lines are told, and kept by a later call; nothing else counts as kept. A line that was
-//!   prepared can be told by a call that can't fail.
+//! - The trait `Journal`: lines are told, and kept by a later call; nothing else counts as kept.
 //! - A `JournalWriter` is a journal on any tape. Whatever a crash leaves of it has the lines that were kept, and behind
 //!   them a beginning of the records of those that are told (its invariant): while a call runs too (`keep_lines`).
 //! - So what is read of it are the lines kept, and the first of those that were told, each whole

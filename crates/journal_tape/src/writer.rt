@@ -1,18 +1,17 @@
 //! A journal on a tape.
 
-ghost use Rattle.std.specs.Prelude.{◌≡◌, ◌≤◌, ◌<◌, ◌+◌, ◌-◌, ◌++◌, true, false, length, List, ℕ, Some, Err, option_to_list, vec_len, vec_capacity, OnErr, OnOk};
+ghost use Rattle.std.specs.Prelude.{◌≡◌, ◌≤◌, ◌<◌, ◌+◌, ◌-◌, ◌++◌, true, false, length, List, ℕ, Err, vec_len, vec_capacity, OnErr, OnOk};
 ghost use Rattle.journal_record.specs.Record.{is_line, lines_sum, lines_text};
 ghost use Rattle.journal_record.specs.declared.record.RecordFault.TheVariants.{NotALine, OutOfMemory};
 ghost use Rattle.journal_tape.specs.Tape.{IsBetween, LeavesOnly, Only, text, zeros};
-ghost use Rattle.journal_tape.specs.Told.{all_kept, are_lines, beside_line, next_line, no_lines, unkept_text, with_line, with_lines};
+ghost use Rattle.journal_tape.specs.Told.{all_kept, are_lines, beside_line, no_lines, unkept_text, with_line};
 
 use crate::commit::commit;
 use crate::keeper::{Journal, JournalFault};
 use crate::tape::{Tape, TapeFault};
 use crate::told::Told;
-use journal_record::{BESIDE_LINE, RecordFault, append_record, is_line};
+use journal_record::{RecordFault, append_record};
 use std::alloc::Global;
-use std::mem;
 
 /// The lines of a journal on a tape, which no other hand writes. Whatever a crash leaves of the tape has the lines that
 /// are kept, and behind them a beginning of the records of those that were told. Once a write or a sync has failed,
@@ -25,8 +24,6 @@ pub struct JournalWriter<T: Tape> {
     room: usize,
     sum: u32,
     batch: Vec<u8>,
-    pub next: Vec<u8>,
-    pub has_next: bool,
     is_sound: bool,
     pub told: Told,
     pub ghost clean_kept: { are_lines told.lines.kept ≡ true },
@@ -35,9 +32,6 @@ pub struct JournalWriter<T: Tape> {
     pub ghost sum_is: { sum ≡ lines_sum (lines_sum 0 told.lines.kept) told.lines.unkept },
     pub ghost ends: { end ≡ length (lines_text 0 told.lines.kept) },
     pub ghost within: { end ≤ room },
-    pub ghost next_is_line: { has_next ≡ true → is_line next.items ≡ true },
-    pub ghost next_fits: { has_next ≡ true
-        → vec_len batch + (length next.items + beside_line) ≤ vec_capacity batch },
     pub ghost file: { is_sound ≡ true → T.seen tape ≡ lines_text 0 told.lines.kept ++ zeros (room - end) },
     pub ghost durable: { is_sound ≡ true → Only (T.seen tape) (T.may_leave tape) },
     pub ghost leaves: { (c : List ℕ) → T.may_leave tape c
@@ -58,93 +52,34 @@ impl<T: Tape> JournalWriter<T> {
             room,
             sum: 0,
             batch: Vec::new(alloc),
-            next: Vec::new(alloc),
-            has_next: false,
             is_sound: true,
             told: Told::new(),
         }
     }
 
-    /// Tells a line, which waits to be kept. What was prepared is forgotten. It fails only where the text is no line,
-    /// or there is no room for it.
+    /// Tells a line, which waits to be kept. It fails only where the text is no line, or there is no room for it.
     pub fn tell_line(&mut self, line: &[u8]) -> Result<(), RecordFault>
         ensures told { OnOk result (self.new.told.lines ≡ with_line line.now self.old.told.lines) }
         ensures same { OnErr result (self.new.told.lines ≡ self.old.told.lines) }
-        ensures none { self.new.has_next ≡ false }
         ensures unfit { result ≡ Err NotALine → is_line line.now ≡ false }
         ensures full { result ≡ Err OutOfMemory
             → vec_capacity self.old.batch < vec_len self.old.batch + (length line.now + beside_line) }
     {
-        self.has_next = false;
         self.sum = append_record(&mut self.batch, self.sum, line)?;
         self.told = self.told.with(line);
         Ok(())
     }
 
-    /// Makes room for a line, in the place of one that was prepared.
-    pub fn prepare_line(&mut self, line: &[u8]) -> Result<(), RecordFault>
-        ensures prepared { OnOk result (next_line self.new.has_next self.new.next.items ≡ Some line.now) }
-        ensures none { OnErr result (self.new.has_next ≡ false) }
-        ensures same { self.new.told.lines ≡ self.old.told.lines }
-    {
-        self.has_next = false;
-        if !is_line(line) {
-            return Err(RecordFault::NotALine);
-        }
-        self.next.clear();
-        if self.next.extend_from_slice(line).is_err() {
-            return Err(RecordFault::OutOfMemory);
-        }
-        if self
-            .batch
-            .reserve(line.len().saturating_add(BESIDE_LINE))
-            .is_err()
-        {
-            return Err(RecordFault::OutOfMemory);
-        }
-        self.has_next = true;
-        Ok(())
-    }
-
-    /// What was prepared is forgotten.
-    pub fn forget(&mut self)
-        ensures none { self.new.has_next ≡ false }
-        ensures same { self.new.told.lines ≡ self.old.told.lines }
-    {
-        self.has_next = false;
-    }
-
-    /// Tells the line that is prepared, if one is.
-    pub fn tell_next(&mut self)
-        ensures told { self.new.told.lines
-            ≡ with_lines (option_to_list (next_line self.old.has_next self.old.next.items)) self.old.told.lines }
-        ensures none { self.new.has_next ≡ false }
-    {
-        if !self.has_next {
-            return;
-        }
-        self.has_next = false;
-        let line = mem::replace(&mut self.next, Vec::new(self.alloc));
-        match self.tell_line(line.as_slice()) {
-            Ok(()) => {}
-            Err(RecordFault::NotALine) => unreachable!(),
-            Err(RecordFault::OutOfMemory) => unreachable!(),
-        }
-        self.next = line;
-    }
-
     /// Keeps all lines that were told, by one write and one sync. At `Err` they are told still, and none can be kept on
-    /// this tape. What was prepared is forgotten.
+    /// this tape.
     pub fn keep_lines(&mut self) -> Result<(), TapeFault>
         ensures kept { OnOk result (self.new.told.lines ≡ all_kept self.old.told.lines) }
         ensures same { OnErr result (self.new.told.lines ≡ self.old.told.lines) }
-        ensures none { self.new.has_next ≡ false }
 
         // a crash at any moment of the call leaves the lines kept before, and a beginning of the others' records
         ensures any_moment { LeavesOnly T.moment T.left_since self.old.tape self.new.tape
             (λ c. IsBetween (lines_text 0 self.old.told.lines.kept) (unkept_text self.old.told.lines) (text c)) }
     {
-        self.has_next = false;
         if !self.is_sound {
             return Err(TapeFault::Failed);
         }
@@ -189,26 +124,12 @@ impl<T: Tape> Journal for JournalWriter<T> {
 
     ghost unkept = { λ j. j.told.lines.unkept };
 
-    ghost prepared = { λ j. next_line j.has_next j.next.items };
-
     fn tell(&mut self, line: &[u8]) -> Result<(), JournalFault> {
         match self.tell_line(line) {
             Ok(()) => Ok(()),
             Err(RecordFault::NotALine) => Err(JournalFault::NotALine),
             Err(RecordFault::OutOfMemory) => Err(JournalFault::OutOfMemory),
         }
-    }
-
-    fn prepare(&mut self, line: &[u8]) -> Result<(), JournalFault> {
-        match self.prepare_line(line) {
-            Ok(()) => Ok(()),
-            Err(RecordFault::NotALine) => Err(JournalFault::NotALine),
-            Err(RecordFault::OutOfMemory) => Err(JournalFault::OutOfMemory),
-        }
-    }
-
-    fn tell_prepared(&mut self) {
-        self.tell_next();
     }
 
     fn keep(&mut self) -> Result<(), JournalFault> {

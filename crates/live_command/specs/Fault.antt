@@ -37,11 +37,13 @@ IsOfCommandLine (CommandLine error) = Unit {0}
 IsOfCommandLine OutOfMemory = Unit {0}
 IsOfCommandLine other = ⊥
 
--- the fault of a day that can't be run, or whose audit fails. A day over loopback keeps no logs and has no page
+-- the fault of a day that can't be run, or whose audit fails. A day over loopback keeps no logs, has no page and takes
+-- no lines
 abbrev pub day_fault : DayFault → CommandFault
 day_fault (day.NoLogs fault) = NoSocket
 day_fault (day.NoJournal refused) = NoSocket
 day_fault day.NoPage = NoSocket
+day_fault day.NoLines = NoSocket
 day_fault day.NoSocket = NoSocket
 day_fault day.NoThread = NoThread
 day_fault day.OutOfMemory = OutOfMemory

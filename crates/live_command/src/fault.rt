@@ -111,6 +111,7 @@ impl From<DayFault> for CommandFault {
             DayFault::NoLogs(_) => CommandFault::NoSocket,
             DayFault::NoJournal(_) => CommandFault::NoSocket,
             DayFault::NoPage => CommandFault::NoSocket,
+            DayFault::NoLines => CommandFault::NoSocket,
             DayFault::NoSocket => CommandFault::NoSocket,
             DayFault::NoThread => CommandFault::NoThread,
             DayFault::OutOfMemory => CommandFault::OutOfMemory,

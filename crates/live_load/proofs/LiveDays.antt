@@ -6,7 +6,7 @@ use Rattle.day_sweeps.specs.Paid.{parts_of}
 use Rattle.desk_config.specs.declared.venue.Venue.{Venue}
 use Rattle.session_worker.specs.Ends.{WorkerStart, WorkerLeft, AllRan}
 use Rattle.desk_venues.specs.Starts.{any_wording, starts_of}
-use Rattle.desk_run.specs.Audited.{IsAudited}
+use Rattle.desk_day.specs.Audited.{IsAudited}
 use Rattle.live_load.specs.declared.day.LiveDay.{LiveDay}
 use Rattle.live_load.specs.Told.{IsLiveDay, TellsEnds}
 

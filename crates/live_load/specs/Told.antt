@@ -3,7 +3,7 @@ use Rattle.std.specs.Prelude.{◌≡◌, List, map}
 use Rattle.std.specs.List.{list_any}
 use Rattle.day_sweeps.specs.Paid.{parts_of}
 use Rattle.desk_config.specs.declared.venue.Venue.{Venue}
-use Rattle.desk_run.specs.Audited.{IsDeskDay}
+use Rattle.desk_day.specs.Audited.{IsDeskDay}
 use Rattle.session_worker.specs.Ends.{WorkerLeft}
 use Rattle.live_load.specs.declared.day.LiveDay.{LiveDay}
 use Rattle.live_load.specs.Venues.{venue_left, was_answered}

@@ -9,7 +9,7 @@ use dialect::AnyDialect;
 use fix_tags::CompId;
 use order_limits::LegLimits;
 use std::alloc::Global;
-use venue_words::VenueWords;
+use venue_words::{Dress, VenueWords};
 
 /// How many shares of each order an exchange trades.
 const FILL: u64 = 6;
@@ -41,10 +41,13 @@ fn venue_of(alloc: Global, number: u8) -> Option<Venue>
     Some(Venue {
         name: VenueName::new(text.as_bytes())?,
         endpoint: Endpoint::Simulated(FillShares::of(FILL)),
+        backups: [None, None, None],
         target: CompId::new(b"B").unwrap(),
         sender: CompId::new(b"A").unwrap(),
         session: session(),
         words: VenueWords::Preset(AnyDialect::Plain),
+        dress: Dress::none(),
+        password_file: None,
         limits: LegLimits::none(),
     })
 }

@@ -7,7 +7,7 @@ ghost use Rattle.release_lock.specs.Queues.{IsFresh};
 ghost use Rattle.desk_venues.specs.Starts.{any_wording};
 ghost use Rattle.session_worker.specs.Ends.{AllRan};
 ghost use Rattle.session_worker.specs.Places.{place, new_places};
-ghost use Rattle.desk_run.specs.Audited.{IsAudited};
+ghost use Rattle.desk_day.specs.Audited.{IsAudited};
 ghost use Rattle.live_load.specs.Config.{venues_to};
 ghost use Rattle.desk_venues.specs.Faults.{IsNoMismatch};
 ghost use Rattle.live_load.specs.Told.{IsLiveDay, TellsEnds};
@@ -20,10 +20,12 @@ use crate::venues::{is_answered, left_venues};
 use crate::{LiveDay, LivePlan, Progress};
 use clock::Clock;
 use desk_config::Venue;
+use desk_day::{DeskDay, Means, OpenDay, Past, begin_day, close_day, open_day};
 use desk_floor::{Floor, Manner, Voice};
-use desk_run::{DeskDay, Means, OpenDay, Past, begin_day, close_day, open_day};
-use desk_threads::{Cast, Ended, in_threads};
-use desk_venues::{DayFault, Serve};
+use desk_serve::{Cast, Ended};
+use desk_talk::Callers;
+use desk_threads::in_threads;
+use desk_venues::{DayFault, Serve, no_secrets};
 use exec_collector::{Accounts, BlankBook};
 use json_lines::Form;
 use kept_link::Untold;
@@ -134,7 +136,9 @@ where
         limits: OrderLimits::none(alloc),
         folder: None,
         voice: Voice::new(alloc, Form::Words, sink()),
+        secrets: no_secrets(alloc, venues.len())?,
         servers: Vec::new(alloc),
+        listens: false,
         cut: plan.cut,
     };
     let begun = begin_day::<L, M>(alloc, venues, callers, workers, rings)?;
@@ -172,6 +176,7 @@ where
         (map (λ e. left_of e.seat e.unplaced) day.1.items)) }
     ensures only { IfErr result IsNoMismatch }
 {
+    let callers = &Callers::new(alloc, false);
     let (ended, called) = join(
         rt,
         || -> Result<Ended<K, L, M>, DayFault>
@@ -179,7 +184,7 @@ where
             ensures workers { IfOk result (λ ended. map (λ e. place e.parts) ended.workers.items
                 ≡ map (λ w. place w.parts) cast.workers.items) }
             ensures only { IfErr result IsNoMismatch }
-        { in_threads(rt, alloc, floor, cast, plan.turns) },
+        { in_threads(rt, alloc, floor, callers, cast, plan.turns) },
         || -> Result<Vec<CallerEnd<L>>, DayFault>
             ensures called { IfOk result (λ ends. AllCalled (map (λ s. caller_of plan s) seats.items)
                 (map (λ e. left_of e.seat e.unplaced) ends.items)) }

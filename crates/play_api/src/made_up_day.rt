@@ -6,7 +6,7 @@ ghost use Rattle.play_api.specs.Names.{names_of};
 use crate::venues::Venues;
 use desk_answers::Refusal;
 use desk_executions::Execution;
-use desk_http::{Changes, Day, DaySums, RefusalCounts};
+use desk_http::{Day, DaySums, ProcessUse, RefusalCounts, Stopped};
 use desk_json::{Audit, Event, ExecutionsPage, LegRow, Outcome, SweepLegs, SweepsPage, VenueRow};
 use desk_news::{DayTotals, Paid, PaidSweep};
 use desk_words::VenueName;
@@ -31,6 +31,9 @@ pub struct MadeUpDay {
     pub day: DayTotals,
     /// How many sweeps weren't placed until now.
     pub refusals: RefusalCounts,
+    /// How many wrong tokens came until now.
+    pub wrong_tokens: u64,
+    pub process_use: Option<ProcessUse>,
     pub is_closing: bool,
     /// Whether too many follow the day.
     pub is_crowded: bool,
@@ -140,6 +143,8 @@ impl MadeUpDay {
             executions: Vec::new(alloc),
             day: NO_SHARES,
             refusals: NO_REFUSALS,
+            wrong_tokens: 0,
+            process_use: None,
             is_closing: false,
             is_crowded: false,
             legs: Vec::new(alloc),
@@ -161,6 +166,15 @@ impl MadeUpDay {
 
     fn ask(&mut self, words: &str) -> Result<(), AllocError> {
         self.asked.push_str(words)?;
+        self.asked.push('\n')
+    }
+
+    /// The day is asked by the user at this place, where one is known.
+    fn ask_by(&mut self, words: &str, by: Option<usize>) -> Result<(), AllocError> {
+        self.asked.push_str(words)?;
+        if let Some(place) = by {
+            write!(&mut self.asked, " by user {place}")?;
+        }
         self.asked.push('\n')
     }
 
@@ -195,11 +209,15 @@ impl MadeUpDay {
         Ok(())
     }
 
-    fn hand_in(&mut self, submission: &Submission) -> Result<Outcome, AllocError> {
+    fn hand_in(
+        &mut self,
+        submission: &Submission,
+        by: Option<usize>,
+    ) -> Result<Outcome, AllocError> {
         let Submission { reference, sweep } = submission;
         let legs = sweep.legs.as_slice();
         let line = write_sweep(self.alloc, self.venues.names(), reference.as_ref(), legs)?;
-        self.ask(line.as_str())?;
+        self.ask_by(line.as_str(), by)?;
         match &self.outcome {
             Outcome::Placed {
                 sweep: number,
@@ -240,12 +258,57 @@ impl MadeUpDay {
             Outcome::Closing => Ok(Outcome::Closing),
         }
     }
+
+    /// A client follows the day, behind this execution where it names one. It gives the number behind which it does.
+    pub fn follow(&mut self, after: Option<u64>) -> Result<u64, AllocError> {
+        self.looks = 0;
+        match after {
+            Some(number) => {
+                let line = format!(in self.alloc; "follow after {number}")?;
+                self.ask(line.as_str())?;
+                Ok(number)
+            }
+            None => {
+                self.ask("follow")?;
+                Ok(self.executions.len() as u64)
+            }
+        }
+    }
+
+    /// What is to be told is told at once: first nothing, as if a second went by, then all, and then that the day is
+    /// closed.
+    pub fn changes(&mut self, cursor: &mut u64) -> Result<Vec<Event>, AllocError> {
+        let mut events = Vec::new(self.alloc);
+        let since = *cursor;
+        match self.looks {
+            0 => {}
+            1 => {
+                for execution in self.executions.iter() {
+                    if execution.number > since {
+                        *cursor = execution.number;
+                        events.push(Event::Execution(same_as(execution)?))?;
+                    }
+                }
+                for sweep in self.sweeps.iter() {
+                    events.push(Event::Sweep(*sweep))?;
+                }
+                for row in self.venues.rows()? {
+                    events.push(Event::Venue(row))?;
+                }
+                events.push(Event::Refused(Refusal::NoLegs))?;
+                events.push(Event::Day(self.day))?;
+            }
+            _ => events.push(Event::Closed(Audit::Whole))?,
+        }
+        self.looks = self.looks.saturating_add(1);
+        Ok(events)
+    }
 }
 
 impl Day for MadeUpDay {
     ghost venue_names = { λ day. names_of day.venues };
 
-    ghost places = { λ _ _ _ _. ⊤ };
+    ghost places = { λ _ _ _ _ _. ⊤ };
 
     ghost pages = { λ _ _ _ _ _. ⊤ };
 
@@ -261,14 +324,22 @@ impl Day for MadeUpDay {
 
     ghost refuses = { λ _ _. ⊤ };
 
-    ghost closes = { λ _ _. ⊤ };
+    ghost guesses = { λ _ _. ⊤ };
+
+    ghost uses = { λ _ _. ⊤ };
+
+    ghost closes = { λ _ _ _. ⊤ };
+
+    ghost halts = { λ _ _ _ _. ⊤ };
+
+    ghost resumes = { λ _ _ _ _. ⊤ };
 
     fn names(&self) -> &[VenueName] {
         self.venues.names()
     }
 
-    fn place(&mut self, submission: Submission) -> Outcome {
-        self.hand_in(&submission)
+    fn place(&mut self, submission: Submission, by: Option<usize>) -> Outcome {
+        self.hand_in(&submission, by)
             .unwrap_or(Outcome::Refused(Refusal::OutOfMemory))
     }
 
@@ -349,54 +420,34 @@ impl Day for MadeUpDay {
         self.refusals
     }
 
-    fn close(&mut self) {
+    fn wrong_tokens(&self) -> u64 {
+        self.wrong_tokens
+    }
+
+    fn process_use(&self) -> Option<ProcessUse> {
+        self.process_use
+    }
+
+    fn close(&mut self, by: Option<usize>) {
         self.is_closing = true;
-        let _ = self.ask("close");
+        let _ = self.ask_by("close", by);
     }
 
-    fn follow(&mut self, after: Option<u64>) -> Option<u64> {
-        if self.is_crowded {
-            return None;
+    fn halt(&mut self, by: Option<usize>) -> Stopped {
+        let _ = self.ask_by("halt", by);
+        Stopped {
+            is_sending: false,
+            is_kept: true,
         }
-        self.looks = 0;
-        Some(after.unwrap_or(self.executions.len() as u64))
     }
 
-    /// What is to be told is told at once: first nothing, as if a second went by, then all, and then that the day is
-    /// closed.
-    fn changes(&mut self, since: u64) -> Result<Changes, AllocError> {
-        let mut events = Vec::new(self.alloc);
-        let mut cursor = since;
-        match self.looks {
-            0 => {}
-            1 => {
-                for execution in self.executions.iter() {
-                    if execution.number > since {
-                        cursor = execution.number;
-                        events.push(Event::Execution(same_as(execution)?))?;
-                    }
-                }
-                for sweep in self.sweeps.iter() {
-                    events.push(Event::Sweep(*sweep))?;
-                }
-                for row in self.venues.rows()? {
-                    events.push(Event::Venue(row))?;
-                }
-                events.push(Event::Refused(Refusal::NoLegs))?;
-                events.push(Event::Day(self.day))?;
-            }
-            _ => events.push(Event::Closed(Audit::Whole))?,
-        }
-        self.looks = self.looks.saturating_add(1);
-        Ok(Changes {
-            cursor,
-            events,
-            is_over: false,
-        })
+    fn resume(&mut self, by: Option<usize>) -> bool {
+        let _ = self.ask_by("resume", by);
+        true
     }
 
-    fn unfollow(&mut self) {
-        let _ = self.ask("unfollow");
+    fn may_follow(&mut self) -> bool {
+        !self.is_crowded
     }
 }
 

@@ -6,8 +6,6 @@ mod beside;
 mod executions;
 mod made_up_day;
 mod player;
-mod still;
-mod talk;
 mod venues;
 mod words;
 

@@ -3,21 +3,37 @@
 use crate::beside::words_of;
 use crate::executions::{answered, named_venue, note, unbooked_counts};
 use crate::made_up_day::MadeUpDay;
-use crate::still::Still;
-use crate::talk::Talk;
-use crate::words::{day_totals, outcome, paid_sweep, refusal_counts};
-use case_text::{Answers, PlayFault, Player, number};
-use desk_http::{Door, Run, serve};
+use crate::words::{day_totals, outcome, paid_sweep, process_use, refusal_counts};
+use bytes::BytesMut;
+use case_text::{Answers, PlayFault, Player, number, words};
+use desk_http::{
+    Connection, Door, Guesses, Refused, Rights, Run, STILL_HERE, Turn, User, events_text, refuse,
+    stream_head,
+};
 use report_words::ReportWords;
 use share_ledger::Applied;
-use std::alloc::Global;
-use std::str;
+use std::alloc::{AllocError, Global};
+use std::{mem, str};
 
 /// The page of the cases.
 const PAGE: &str = "<!doctype html><title>Desk</title>";
 
 /// The name of the run that serves the cases, and the same moment in microseconds since 1970-01-01 UTC.
 const RUN: (&str, u64) = ("2026-11-28T09:15:02.123456789Z", 1_795_857_302_123_456);
+
+/// How many bytes come at once, so that a request comes in several pieces.
+const PIECE: usize = 16;
+
+/// How often a stream looks at what changed.
+const LOOKS: u64 = 3;
+
+/// A user of a case, and his token.
+#[derive(Drop)]
+struct CaseUser {
+    name: String,
+    token: String,
+    rights: Rights,
+}
 
 /// What a case says, and the day that it is said to.
 #[derive(Drop)]
@@ -26,8 +42,12 @@ pub struct ApiPlayer {
     day: MadeUpDay,
     /// The token that the desk asks for; empty where it asks for none.
     token: String,
+    /// Who may ask what with a token of his own.
+    users: Vec<CaseUser>,
     /// The token that the client has.
     known: String,
+    /// The wrong tokens whose moments are told.
+    guesses: Guesses,
     /// Whether the desk serves every address of its machine.
     is_open: bool,
     /// The desk's own name, as `desk.example.com`; empty where it has none.
@@ -40,13 +60,43 @@ pub struct ApiPlayer {
     beside: String,
 }
 
+/// What `Authorization` is where a client has this token; empty where it has none.
+fn bearer(alloc: Global, token: &str) -> Result<String, AllocError> {
+    if token.is_empty() {
+        return Ok(String::new(alloc));
+    }
+    format!(in alloc; "Bearer {token}")
+}
+
+/// The rights that these words are.
+fn rights_of(words: &[&str]) -> Result<Rights, PlayFault> {
+    let mut rights = Rights {
+        read: false,
+        trade: false,
+        close: false,
+        halt: false,
+    };
+    for word in words {
+        match *word {
+            "read" => rights.read = true,
+            "trade" => rights.trade = true,
+            "close" => rights.close = true,
+            "halt" => rights.halt = true,
+            _ => return Err(PlayFault::NotUnderstood),
+        }
+    }
+    Ok(rights)
+}
+
 impl ApiPlayer {
     pub fn new(alloc: Global) -> ApiPlayer {
         ApiPlayer {
             alloc,
             day: MadeUpDay::new(alloc),
             token: String::new(alloc),
+            users: Vec::new(alloc),
             known: String::new(alloc),
+            guesses: Guesses::new(),
             is_open: false,
             name: String::new(alloc),
             key: String::new(alloc),
@@ -56,11 +106,6 @@ impl ApiPlayer {
     }
 
     fn door(&self) -> Result<Door, PlayFault> {
-        let mut authorization = String::new(self.alloc);
-        if !self.token.is_empty() {
-            authorization.push_str("Bearer ")?;
-            authorization.push_str(self.token.as_str())?;
-        }
         Ok(Door {
             host: String::from_str(
                 self.alloc,
@@ -77,8 +122,22 @@ impl ApiPlayer {
             },
             is_open: self.is_open,
             names: self.names()?,
-            authorization,
+            authorization: bearer(self.alloc, self.token.as_str())?,
+            users: self.door_users()?,
         })
+    }
+
+    /// The users, as the door has them.
+    fn door_users(&self) -> Result<Vec<User>, PlayFault> {
+        let mut users = Vec::new(self.alloc);
+        for user in self.users.iter() {
+            users.push(User {
+                name: String::from_str(self.alloc, user.name.as_str())?,
+                authorization: bearer(self.alloc, user.token.as_str())?,
+                rights: user.rights,
+            })?;
+        }
+        Ok(users)
     }
 
     /// The name of the desk, where it has one.
@@ -111,27 +170,79 @@ impl ApiPlayer {
         Ok(())
     }
 
-    /// Serves what the client said, and gives the answer's text.
+    /// The run that serves the cases.
+    fn run(&self) -> Result<Run, PlayFault> {
+        Ok(Run {
+            id: String::from_str(self.alloc, RUN.0)?,
+            desk: String::new(self.alloc),
+            environment: String::new(self.alloc),
+            begun: RUN.1,
+        })
+    }
+
+    /// Serves what the client said, which comes in pieces, and gives what was answered. A client that is late stays
+    /// behind that, and says nothing more in time.
     fn serve(&mut self, is_late: bool) -> Result<String, PlayFault> {
         let door = self.door()?;
-        let run = Run {
-            id: String::from_str(self.alloc, RUN.0)?,
-            begun: RUN.1,
-        };
-        let said = std::mem::replace(&mut self.said, Vec::new(self.alloc));
-        let mut talk = Talk::new(said, is_late, Vec::new(self.alloc));
-        // A fault of the connection ends it: what was answered until then is the answer.
-        let _ = serve(
-            &Still,
-            self.alloc,
-            &mut talk,
-            &mut self.day,
-            &door,
-            PAGE,
-            &run,
-        );
-        let text = str::from_utf8(talk.answer()).unwrap_or("no text");
+        let run = self.run()?;
+        let said = mem::replace(&mut self.said, Vec::new(self.alloc));
+        let mut connection = Connection::new(self.alloc);
+        let mut output = BytesMut::new(self.alloc);
+        let mut turn = Turn::Waits;
+        for piece in said.as_slice().chunks(PIECE) {
+            connection.take(piece)?;
+            turn = self.answer(&mut connection, &door, &run, &mut output)?;
+            if turn != Turn::Waits {
+                break;
+            }
+        }
+        if let Turn::Follows(after) = turn {
+            let text = self.stream(&run, after)?;
+            output.extend_from_slice(text.as_str().as_bytes())?;
+        }
+        if turn == Turn::Waits && is_late && connection.has_begun() {
+            refuse(
+                self.alloc,
+                &door,
+                &run,
+                false,
+                Refused::TooSlow,
+                &mut output,
+            )?;
+        }
+        let text = str::from_utf8(output.as_slice()).unwrap_or("no text");
         Ok(String::from_str(self.alloc, text)?)
+    }
+
+    /// Answers what was asked until now.
+    fn answer(
+        &mut self,
+        connection: &mut Connection,
+        door: &Door,
+        run: &Run,
+        output: &mut BytesMut,
+    ) -> Result<Turn, PlayFault> {
+        for _ in 0..u64::MAX {
+            match connection.answer_next(&mut self.day, door, PAGE, run, output)? {
+                Turn::Answered => {}
+                turn => return Ok(turn),
+            }
+        }
+        Ok(Turn::Waits)
+    }
+
+    /// The stream of the day's events behind an execution.
+    fn stream(&mut self, run: &Run, after: Option<u64>) -> Result<String, PlayFault> {
+        let mut cursor = self.day.follow(after)?;
+        let mut text = stream_head(self.alloc, run)?;
+        for _ in 0..LOOKS {
+            let events = self.day.changes(&mut cursor)?;
+            if events.is_empty() {
+                text.push_str(STILL_HERE)?;
+            }
+            text.push_str(events_text(self.alloc, events.as_slice())?.as_str())?;
+        }
+        Ok(text)
     }
 
     /// What the day was asked until now.
@@ -141,6 +252,30 @@ impl ApiPlayer {
             answers.say(text.as_str())?;
         }
         self.day.forget();
+        Ok(())
+    }
+
+    /// Tells the whole answer to a client that finds no place among the connections.
+    fn tell_full(&self, answers: &mut Answers) -> Result<(), PlayFault> {
+        let door = self.door()?;
+        let run = self.run()?;
+        let mut output = BytesMut::new(self.alloc);
+        refuse(
+            self.alloc,
+            &door,
+            &run,
+            false,
+            Refused::Crowded,
+            &mut output,
+        )?;
+        for line in str::from_utf8(output.as_slice())
+            .unwrap_or("no text")
+            .lines()
+        {
+            if !line.is_empty() {
+                answers.say(line)?;
+            }
+        }
         Ok(())
     }
 
@@ -183,10 +318,22 @@ impl ApiPlayer {
         Ok(())
     }
 
-    /// A GET as any client sends it.
+    /// The client says its token, where it has one.
+    fn say_token(&mut self) -> Result<(), PlayFault> {
+        let words = bearer(self.alloc, self.known.as_str())?;
+        if !words.is_empty() {
+            let line = format!(in self.alloc; "Authorization: {words}\r\n")?;
+            self.say(line.as_str())?;
+        }
+        Ok(())
+    }
+
+    /// A GET as any client sends it, with the token where the client has one.
     fn get(&mut self, path: &str, answers: &mut Answers) -> Result<(), PlayFault> {
-        let head = format!(in self.alloc; "GET {path} HTTP/1.1\r\nHost: 127.0.0.1:8080\r\n\r\n")?;
+        let head = format!(in self.alloc; "GET {path} HTTP/1.1\r\nHost: 127.0.0.1:8080\r\n")?;
         self.say(head.as_str())?;
+        self.say_token()?;
+        self.say("\r\n")?;
         self.tell_short(answers)
     }
 
@@ -200,11 +347,7 @@ impl ApiPlayer {
             "POST {path} HTTP/1.1\r\nHost: 127.0.0.1:8080\r\nContent-Type: application/json\r\nContent-Length: {len}\r\n"
         )?;
         self.say(head.as_str())?;
-        if !self.known.is_empty() {
-            let known = self.known.as_str();
-            let line = format!(in self.alloc; "Authorization: Bearer {known}\r\n")?;
-            self.say(line.as_str())?;
-        }
+        self.say_token()?;
         if !self.key.is_empty() {
             let key = self.key.as_str();
             let line = format!(in self.alloc; "Idempotency-Key: {key}\r\n")?;
@@ -221,6 +364,30 @@ impl ApiPlayer {
         let words = words_of(self.beside.as_str())?;
         self.beside.clear();
         Ok(words)
+    }
+
+    /// One user more: his name, his token and what he may.
+    fn add_user(&mut self, text: &str) -> Result<(), PlayFault> {
+        match words(self.alloc, text)?.as_slice() {
+            [name, token, may @ ..] => {
+                self.users.push(CaseUser {
+                    name: String::from_str(self.alloc, name)?,
+                    token: String::from_str(self.alloc, token)?,
+                    rights: rights_of(may)?,
+                })?;
+                Ok(())
+            }
+            _ => Err(PlayFault::NotUnderstood),
+        }
+    }
+
+    /// A wrong token comes at this moment: tells when it is answered.
+    fn guess(&mut self, moment: &str, answers: &mut Answers) -> Result<(), PlayFault> {
+        let text = match self.guesses.answer_at(number(moment)?) {
+            Some(due) => format!(in self.alloc; "answered at {due}")?,
+            None => String::from_str(self.alloc, "not answered")?,
+        };
+        answers.say(text.as_str())
     }
 
     /// What the day says or is.
@@ -264,6 +431,14 @@ impl ApiPlayer {
                 self.day.refusals = refusal_counts(self.alloc, text)?;
                 Ok(())
             }
+            "guesses" => {
+                self.day.wrong_tokens = number(text)?;
+                Ok(())
+            }
+            "uses" => {
+                self.day.process_use = Some(process_use(self.alloc, text)?);
+                Ok(())
+            }
             "beside" => {
                 self.beside = String::from_str(self.alloc, text)?;
                 Ok(())
@@ -272,6 +447,7 @@ impl ApiPlayer {
                 self.token = String::from_str(self.alloc, text)?;
                 Ok(())
             }
+            "user" => self.add_user(text),
             "name" => {
                 self.name = String::from_str(self.alloc, text)?;
                 Ok(())
@@ -301,6 +477,7 @@ impl Player for ApiPlayer {
             "served" => return self.tell_whole(false, answers),
             "late" => return self.tell_whole(true, answers),
             "words" => return self.tell_words(answers),
+            "full" => return self.tell_full(answers),
             "open" => {
                 self.is_open = true;
                 return Ok(());
@@ -321,6 +498,7 @@ impl Player for ApiPlayer {
             "bytes" => self.say_many(text),
             "get" => self.get(text, answers),
             "post" => self.post(text, answers),
+            "guess" => self.guess(text, answers),
             _ => self.set(name, text),
         }
     }

@@ -3,7 +3,7 @@
 use crate::made_up_day::NOT_PAID;
 use case_text::{PlayFault, number, words};
 use desk_answers::Refusal;
-use desk_http::RefusalCounts;
+use desk_http::{ProcessUse, RefusalCounts};
 use desk_json::Outcome;
 use desk_news::{DayTotals, Paid, PaidSweep, SweepParts};
 use desk_words::VenueName;
@@ -89,6 +89,18 @@ pub fn day_totals(alloc: Global, text: &str) -> Result<DayTotals, PlayFault> {
             placed,
             resolved,
             still_open,
+        }),
+        _ => Err(PlayFault::NotUnderstood),
+    }
+}
+
+/// What the process uses: microseconds of processor time, bytes of resident memory, and bytes in all.
+pub fn process_use(alloc: Global, text: &str) -> Result<ProcessUse, PlayFault> {
+    match *numbers(alloc, text)?.as_slice() {
+        [cpu, resident, mapped] => Ok(ProcessUse {
+            cpu,
+            resident,
+            mapped,
         }),
         _ => Err(PlayFault::NotUnderstood),
     }

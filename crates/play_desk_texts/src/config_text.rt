@@ -1,8 +1,8 @@
 //! A configuration as a case shows it.
 
 use case_text::{Answers, PlayFault};
-use desk_config::{ConfigFault, DeskConfig, Endpoint, Venue};
-use dialect::AnyDialect;
+use desk_config::{ConfigFault, DeskConfig, Endpoint, User, UserToken, Venue};
+use dialect::{AnyDialect, Extra};
 use order_limits::LegLimits;
 use std::alloc::{AllocError, Global};
 use std::str;
@@ -23,11 +23,23 @@ fn desk_text(alloc: Global, config: &DeskConfig) -> Result<String, AllocError> {
     if let Some(page) = &config.page {
         write!(text, " page {page}")?;
     }
+    if let Some(listen) = &config.listen {
+        write!(text, " listen {listen}")?;
+    }
+    if let Some(socket) = &config.socket {
+        write!(text, " socket {socket}")?;
+    }
     if let Some(token) = &config.token {
         write!(text, " token {token}")?;
     }
     for host in &config.hosts {
         write!(text, " host {host}")?;
+    }
+    if let Some(name) = &config.label.name {
+        write!(text, " name {name}")?;
+    }
+    if let Some(environment) = &config.label.environment {
+        write!(text, " environment {environment}")?;
     }
     Ok(text)
 }
@@ -64,6 +76,58 @@ fn endpoint_text(alloc: Global, endpoint: &Endpoint) -> Result<String, AllocErro
         Endpoint::At(address) => format!(in alloc; "at {address}"),
         Endpoint::Simulated(fill) => format!(in alloc; "simulated fill {fill}"),
     }
+}
+
+/// Where else it is dialled.
+fn ways_text(alloc: Global, venue: &Venue) -> Result<String, AllocError> {
+    let mut text = String::new(alloc);
+    for backup in venue.backups.iter() {
+        if let Some(address) = backup {
+            write!(text, " backup {address}")?;
+        }
+    }
+    Ok(text)
+}
+
+/// Fields, each behind what carries it.
+fn write_fields(text: &mut String, what: &str, fields: &[Extra]) -> Result<(), AllocError> {
+    for field in fields {
+        let tag = field.tag;
+        let value = str::from_utf8(field.value.as_slice()).unwrap_or("?");
+        write!(text, " {what} {tag}={value}")?;
+    }
+    Ok(())
+}
+
+/// What its messages carry besides.
+fn dress_text(alloc: Global, venue: &Venue) -> Result<String, AllocError> {
+    let mut text = String::new(alloc);
+    write_fields(&mut text, "header", venue.dress.header())?;
+    write_fields(&mut text, "logon", venue.dress.logon())?;
+    if let Some(file) = &venue.password_file {
+        write!(text, " password_file {file}")?;
+    }
+    Ok(text)
+}
+
+fn write_right(text: &mut String, may: bool, name: &str) -> Result<(), AllocError> {
+    if may { write!(text, " {name}") } else { Ok(()) }
+}
+
+/// A user: its name, how it is known, and what it may do.
+fn user_text(alloc: Global, user: &User) -> Result<String, AllocError> {
+    let name = &user.name;
+    let mut text = format!(in alloc; "user {name}")?;
+    match &user.token {
+        UserToken::Text(token) => write!(text, " token {token}")?,
+        UserToken::File(file) => write!(text, " token_file {file}")?,
+    }
+    write!(text, " may")?;
+    write_right(&mut text, user.may.read, "read")?;
+    write_right(&mut text, user.may.trade, "trade")?;
+    write_right(&mut text, user.may.close, "close")?;
+    write_right(&mut text, user.may.halt, "halt")?;
+    Ok(text)
 }
 
 fn dialect_name(dialect: AnyDialect) -> &'static str {
@@ -106,11 +170,7 @@ fn session_text(alloc: Global, venue: &Venue) -> Result<String, AllocError> {
     } else {
         ""
     };
-    let reopen = if venue.session.reopen {
-        " reopen"
-    } else {
-        ""
-    };
+    let reopen = if venue.session.reopen { " reopen" } else { "" };
     let max = venue.session.max_number;
     format!(in alloc; "{dialect} heartbeat {heartbeat}{next}{reopen} max_number {max}")
 }
@@ -120,12 +180,14 @@ fn venue_text(alloc: Global, venue: &Venue) -> Result<String, AllocError> {
     let endpoint = endpoint_text(alloc, &venue.endpoint)?;
     let ends = ends_text(alloc, venue)?;
     let session = session_text(alloc, venue)?;
-    let mut text = format!(in alloc; "venue {name} {endpoint} {ends} {session}")?;
+    let ways = ways_text(alloc, venue)?;
+    let dress = dress_text(alloc, venue)?;
+    let mut text = format!(in alloc; "venue {name} {endpoint}{ways} {ends} {session}{dress}")?;
     write_leg_limits(&mut text, venue.limits)?;
     Ok(text)
 }
 
-/// The desk in a line, and each venue in a line of its own.
+/// The desk in a line, and each venue and each user in a line of its own.
 pub fn say_config(
     alloc: Global,
     config: &DeskConfig,
@@ -140,6 +202,10 @@ pub fn say_config(
     }
     for venue in config.venues.iter() {
         let text = venue_text(alloc, venue)?;
+        answers.say(text.as_str())?;
+    }
+    for user in config.users.iter() {
+        let text = user_text(alloc, user)?;
         answers.say(text.as_str())?;
     }
     Ok(())

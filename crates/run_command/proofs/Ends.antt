@@ -1,12 +1,12 @@
--- Faults of the words and of the file, and those of a day.
+-- Faults of the words, of the file and of passwords, and those of a day.
 use Rattle.std.proofs.Common.{◌≡◌, ◌⊎◌, inr, ℕ, List, [], false, None, Ok, Err, subst}
 use Rattle.std.specs.Prelude.{Option, Result, IfErr, OnOk}
 use Rattle.std.specs.Io.KnownBytes.{Appends, Keeps}
 use Rattle.desk_config.specs.Config.{AnswersText}
 use Rattle.desk_config.specs.declared.config.DeskConfig.{DeskConfig}
-use Rattle.desk_run.proofs.Whole.{whole_over}
-use Rattle.desk_run.specs.Told.{IsToldDay, IsToldOver}
-use Rattle.desk_run.specs.declared.day.DeskDay.{DeskDay}
+use Rattle.desk_day.proofs.Whole.{whole_over}
+use Rattle.desk_day.specs.Told.{IsToldDay, IsToldOver}
+use Rattle.desk_day.specs.declared.day.DeskDay.{DeskDay}
 use Rattle.json_lines.specs.declared.form.Form.{Form}
 use Rattle.run_command.specs.Ending.{end_text, EndsOpen, PrintsDay, PrintsWholeDay}
 use Rattle.command_line.specs.declared.input.InputFault.{InputFault}
@@ -22,7 +22,11 @@ use Rattle.run_command.specs.declared.fault.CommandFault.TheVariants.{
   NoFile,
   NotText,
   BadFile,
+  NoToken,
+  SameToken,
+  NoPassword,
   NoPage,
+  NoLines,
   NoLogs,
   NoJournal,
   ReadFailed,
@@ -46,7 +50,11 @@ said_of said BadRefs it = it
 said_of said (NoFile name) it = it
 said_of said (NotText name) it = it
 said_of said (BadFile name fault) it = it
+said_of said (NoToken user file fault) it = it
+said_of said (SameToken user) it = it
+said_of said (NoPassword venue file why) it = it
 said_of said NoPage it = tt
+said_of said NoLines it = tt
 said_of said (NoLogs fault) it = tt
 said_of said (NoJournal refused) it = tt
 said_of said ReadFailed it = tt
@@ -69,7 +77,11 @@ of_day said BadRefs it = absurd it
 of_day said (NoFile name) it = absurd it
 of_day said (NotText name) it = absurd it
 of_day said (BadFile name fault) it = absurd it
+of_day said (NoToken user file fault) it = absurd it
+of_day said (SameToken user) it = absurd it
+of_day said (NoPassword venue file why) it = absurd it
 of_day said NoPage it = tt
+of_day said NoLines it = tt
 of_day said (NoLogs fault) it = tt
 of_day said (NoJournal refused) it = tt
 of_day said ReadFailed it = tt
@@ -126,7 +138,11 @@ of_words BadRefs it = absurd it
 of_words (NoFile name) it = absurd it
 of_words (NotText name) it = absurd it
 of_words (BadFile name fault) it = absurd it
+of_words (NoToken user file fault) it = absurd it
+of_words (SameToken user) it = absurd it
 of_words NoPage it = absurd it
+of_words (NoPassword venue file why) it = absurd it
+of_words NoLines it = absurd it
 of_words (NoLogs fault) it = absurd it
 of_words (NoJournal refused) it = absurd it
 of_words ReadFailed it = absurd it
@@ -148,7 +164,11 @@ none_open said BadRefs it = tt
 none_open said (NoFile name) it = tt
 none_open said (NotText name) it = tt
 none_open said (BadFile name fault) it = tt
+none_open said (NoToken user file fault) it = tt
+none_open said (SameToken user) it = tt
 none_open said NoPage it = tt
+none_open said (NoPassword venue file why) it = tt
+none_open said NoLines it = tt
 none_open said (NoLogs fault) it = tt
 none_open said (NoJournal refused) it = tt
 none_open said ReadFailed it = tt
@@ -180,7 +200,11 @@ open_as after bytes config BadRefs says prints = tt
 open_as after bytes config (NoFile name) says prints = tt
 open_as after bytes config (NotText name) says prints = tt
 open_as after bytes config (BadFile name fault) says prints = tt
+open_as after bytes config (NoToken user file fault) says prints = tt
+open_as after bytes config (SameToken user) says prints = tt
 open_as after bytes config NoPage says prints = tt
+open_as after bytes config (NoPassword venue file why) says prints = tt
+open_as after bytes config NoLines says prints = tt
 open_as after bytes config (NoLogs fault) says prints = tt
 open_as after bytes config (NoJournal refused) says prints = tt
 open_as after bytes config ReadFailed says prints = tt

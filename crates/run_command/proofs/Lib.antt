@@ -1,3 +1,4 @@
 mod Ends
 mod Journals
 mod Lines
+mod Having

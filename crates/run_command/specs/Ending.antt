@@ -3,12 +3,12 @@ use Rattle.std.specs.Prelude.{◌≡◌, ◌⊎◌, ℕ, List, length, Option, N
 use Rattle.std.specs.Io.KnownBytes.{Appends}
 use Rattle.desk_config.specs.Config.{AnswersText}
 use Rattle.desk_config.specs.declared.config.DeskConfig.{DeskConfig}
-use Rattle.desk_run.specs.Told.{IsToldDay, IsToldOver}
-use Rattle.desk_run.specs.Whole.{IsWhole}
-use Rattle.desk_run.specs.declared.day.DeskDay.{DeskDay}
+use Rattle.desk_day.specs.Told.{IsToldDay, IsToldOver}
+use Rattle.desk_day.specs.Whole.{IsWhole}
+use Rattle.desk_day.specs.declared.day.DeskDay.{DeskDay}
 use Rattle.json_lines.specs.declared.form.Form.{Form}
 use Rattle.json_lines.specs.declared.form.Form.TheVariants.{Words, Json}
-use Rattle.run_command.specs.Checked.{check_text}
+use Rattle.config_check.specs.Checked.{check_text}
 use Rattle.run_command.specs.JsonText.{json_text}
 use Rattle.run_command.specs.Text.{day_text}
 

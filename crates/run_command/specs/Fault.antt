@@ -10,6 +10,8 @@ use Rattle.day_restart.specs.declared.fault.RestartFault.{RestartFault}
 use Rattle.day_restart.specs.declared.fault.RestartFault.TheVariants as journal
 use Rattle.journal_folder.specs.declared.fault.FolderFault.{FolderFault}
 use Rattle.journal_folder.specs.declared.fault.FolderFault.TheVariants as folder
+use Rattle.secret_file.specs.declared.fault.SecretFault.{SecretFault}
+use Rattle.secret_file.specs.declared.fault.SecretFault.TheVariants as secret
 use Rattle.desk_venues.specs.declared.day_fault.DayFault.{DayFault}
 use Rattle.desk_venues.specs.declared.day_fault.DayFault.TheVariants as day
 use Rattle.desk_floor.specs.declared.talk_fault.TalkFault.{TalkFault}
@@ -24,7 +26,11 @@ use Rattle.run_command.specs.declared.fault.CommandFault.TheVariants.{
   NoFile,
   NotText,
   BadFile,
+  NoToken,
+  SameToken,
+  NoPassword,
   NoPage,
+  NoLines,
   NoLogs,
   NoJournal,
   ReadFailed,
@@ -67,6 +73,14 @@ journal_status (journal.DeskLine line) = 3
 journal_status (journal.VenueLine name line) = 3
 journal_status journal.OutOfMemory = 5
 
+-- and why a file gives no secret
+abbrev pub secret_status : SecretFault → ℕ
+secret_status secret.OpenToOthers = 3
+secret_status (secret.BadLine most) = 3
+secret_status secret.NoFile = 4
+secret_status secret.ReadFailed = 4
+secret_status secret.OutOfMemory = 5
+
 -- the status that tells a fault
 abbrev pub fault_status : CommandFault → ℕ
 fault_status (CommandLine error) = 2
@@ -75,8 +89,12 @@ fault_status BadPatience = 3
 fault_status BadRefs = 3
 fault_status (NotText name) = 3
 fault_status (BadFile name fault) = 3
+fault_status (NoToken user file fault) = secret_status fault
+fault_status (SameToken user) = 3
 fault_status (NoFile name) = 4
+fault_status (NoPassword venue file why) = 4
 fault_status NoPage = 4
+fault_status NoLines = 4
 fault_status ReadFailed = 4
 fault_status WriteFailed = 4
 fault_status NoSocket = 4
@@ -112,6 +130,7 @@ abbrev pub day_fault : DayFault → CommandFault
 day_fault (day.NoLogs fault) = NoLogs fault
 day_fault (day.NoJournal refused) = NoJournal refused
 day_fault day.NoPage = NoPage
+day_fault day.NoLines = NoLines
 day_fault day.NoSocket = NoSocket
 day_fault day.NoThread = NoThread
 day_fault day.OutOfMemory = OutOfMemory
@@ -125,7 +144,14 @@ WantsMemory (config.Toml error) = IsMemory error
 WantsMemory (config.Key fault) = ⊥
 WantsMemory config.OutOfMemory = Unit {0}
 
--- out of memory isn't told as a fault of the file
+-- a file gives no secret for lack of memory
+abbrev pub LacksMemory : SecretFault → Type 0
+LacksMemory secret.OutOfMemory = Unit {0}
+LacksMemory other = ⊥
+
+-- out of memory isn't told as a fault of the file, or of one with a secret
 abbrev pub IsToldSo : CommandFault → Type 0
 IsToldSo (BadFile name fault) = ¬ WantsMemory fault
+IsToldSo (NoToken user file fault) = ¬ LacksMemory fault
+IsToldSo (NoPassword venue file why) = ¬ LacksMemory why
 IsToldSo other = Unit {0}

@@ -6,8 +6,8 @@ use Rattle.desk_executions.specs.declared.execution.Execution.{Execution}
 use Rattle.desk_json.specs.Executions.{execution_json}
 use Rattle.desk_json.specs.Sweeps.{sweep_json}
 use Rattle.json_lines.specs.Lines.{doubt_json, totals_json}
-use Rattle.desk_run.specs.declared.day.DeskDay.{DeskDay}
-use Rattle.desk_run.specs.declared.day.VenueDoubt.{VenueDoubt}
+use Rattle.desk_day.specs.declared.day.DeskDay.{DeskDay}
+use Rattle.desk_day.specs.declared.day.VenueDoubt.{VenueDoubt}
 use Rattle.session_worker.specs.declared.day_report.DayReport.{DayReport}
 use Rattle.run_command.specs.Text.{totals_of}
 

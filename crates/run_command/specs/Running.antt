@@ -13,11 +13,14 @@ use Rattle.run_command.specs.declared.fault.CommandFault.TheVariants.{
   NoFile,
   NotText,
   BadFile,
+  NoToken,
+  SameToken,
+  NoPassword,
   GivenUp,
   Unbooked,
 }
 
--- what is said of a fault of the words or of the file, which comes before anything is dialled or printed
+-- what is said of a fault of the words, of the file or of a password, which comes before anything is dialled or printed
 abbrev pub IfBeforeDay : Type 0 → CommandFault → Type 0
 IfBeforeDay said (CommandLine error) = said
 IfBeforeDay said NoName = said
@@ -26,6 +29,9 @@ IfBeforeDay said BadRefs = said
 IfBeforeDay said (NoFile name) = said
 IfBeforeDay said (NotText name) = said
 IfBeforeDay said (BadFile name fault) = said
+IfBeforeDay said (NoToken user file fault) = said
+IfBeforeDay said (SameToken user) = said
+IfBeforeDay said (NoPassword venue file why) = said
 IfBeforeDay said other = Unit {0}
 
 -- a fault of a day that was begun
@@ -39,9 +45,9 @@ IfOpen said GivenUp = said
 IfOpen said Unbooked = said
 IfOpen said other = Unit {0}
 
--- how a run ends, by the bytes that the output held before and holds after: a fault of the words or of the file prints
--- nothing; without a fault the file is told to be a day's, or its day was audited and is printed; and so is a day that
--- leaves something open
+-- how a run ends, by the bytes that the output held before and holds after: a fault of the words, of the file or of a
+-- password prints nothing; without a fault the file is told to be a day's, or its day was audited and is printed; and
+-- so is a day that leaves something open
 abbrev pub EndsRun : Option (List ℕ) → Option (List ℕ) → {A : Type 0} → Result A CommandFault → Type 0
 EndsRun before after (Ok done) = EndsWell before after
 EndsRun before after (Err fault) = IfBeforeDay (Keeps before after) fault × IfOpen (EndsOpen after) fault

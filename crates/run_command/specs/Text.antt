@@ -8,8 +8,8 @@ use Rattle.desk_news.specs.declared.paid.PaidSweep.{PaidSweep}
 use Rattle.desk_news.specs.declared.day_totals.DayTotals.{DayTotals}
 use Rattle.desk_executions.specs.declared.execution.Execution.{Execution}
 use Rattle.desk_executions.specs.Execution.{execution_text}
-use Rattle.desk_run.specs.declared.day.DeskDay.{DeskDay}
-use Rattle.desk_run.specs.declared.day.VenueDoubt.{VenueDoubt}
+use Rattle.desk_day.specs.declared.day.DeskDay.{DeskDay}
+use Rattle.desk_day.specs.declared.day.VenueDoubt.{VenueDoubt}
 use Rattle.session_worker.specs.declared.day_report.DayReport.{DayReport}
 
 -- the line of a sweep, with what was paid for it

@@ -4,10 +4,10 @@ ghost use Rattle.std.specs.List.{flat_map};
 ghost use Rattle.run_command.specs.JsonText.{booked_json, doubt_line, json_text, sweep_line, totals_lines, unbooked_line};
 
 use crate::text::totals_of;
+use desk_day::{DeskDay, VenueDoubt};
 use desk_executions::Execution;
 use desk_json::{execution_json, sweep_json};
 use desk_news::PaidSweep;
-use desk_run::{DeskDay, VenueDoubt};
 use json_lines::{AUDIT_JSON, doubt_json, totals_json};
 use session_worker::DayReport;
 use std::alloc::{AllocError, Global};

@@ -1,7 +1,8 @@
 //! Why `dispatch run` failed.
-ghost use Rattle.std.specs.Prelude.{◌≡◌};
+ghost use Rattle.std.specs.Prelude.{◌≡◌, ◌↔◌, IsTrue};
 ghost use Rattle.run_command.specs.declared.fault.CommandFault.TheVariants.{OutOfMemory, WriteFailed};
-ghost use Rattle.run_command.specs.Fault.{IsOfCommandLine, fault_status, folder_status, journal_status, log_status, day_fault, input_fault, talk_fault};
+ghost use Rattle.run_command.specs.Fault.{IsOfCommandLine, fault_status, folder_status, journal_status, log_status};
+ghost use Rattle.run_command.specs.Fault.{LacksMemory, day_fault, input_fault, secret_status, talk_fault};
 
 use clap::error::ErrorKind;
 use command_line::{Fault, InputFault};
@@ -11,6 +12,7 @@ use desk_config::ConfigFault;
 use desk_floor::TalkFault;
 use desk_venues::DayFault;
 use journal_folder::FolderFault;
+use secret_file::SecretFault;
 use std::alloc::AllocError;
 use std::io;
 use thiserror::Error;
@@ -38,7 +40,27 @@ pub enum CommandFault {
     NotText(String),
     /// What is wrong with the file.
     #[error("{name}: {fault}")]
-    BadFile { name: String, fault: ConfigFault },
+    BadFile {
+        name: String,
+        fault: ConfigFault,
+    },
+    /// The file of a user's token gives none.
+    #[error("user {user}: token_file {file}: {fault}")]
+    NoToken {
+        user: String,
+        file: String,
+        fault: SecretFault,
+    },
+    /// Another user has the token of this one.
+    #[error("user {0}: another user has the same token")]
+    SameToken(String),
+    /// The password of a venue can't be read from its file.
+    #[error("the password of {venue}: {file}: {why}")]
+    NoPassword {
+        venue: String,
+        file: String,
+        why: SecretFault,
+    },
     /// The logs of the day can't be begun in their folder.
     #[error("log: {0}")]
     NoLogs(LogFault),
@@ -48,6 +70,9 @@ pub enum CommandFault {
     /// The page can't be served where the file asks for it.
     #[error("page: it can't be served there")]
     NoPage,
+    /// Lines can't be taken where the file asks for it.
+    #[error("listen or socket: lines can't be taken there")]
+    NoLines,
     #[error("read failed")]
     ReadFailed,
     #[error("write failed")]
@@ -86,6 +111,28 @@ fn log_status(fault: &LogFault) -> u8
         LogFault::NameTaken | LogFault::Exists(_) => 3,
         LogFault::CantLook(_) | LogFault::NoFolder | LogFault::CantWrite(_) => 4,
         LogFault::OutOfMemory => 5,
+    }
+}
+
+/// The status that tells why a file gives no secret: 3 where it has to be another one, 4 where it can't be read.
+fn secret_status(fault: SecretFault) -> u8
+    ensures { result ≡ secret_status fault }
+{
+    match fault {
+        SecretFault::OpenToOthers | SecretFault::BadLine { .. } => 3,
+        SecretFault::NoFile | SecretFault::ReadFailed => 4,
+        SecretFault::OutOfMemory => 5,
+    }
+}
+
+/// Whether a file gives no secret for lack of memory.
+pub(crate) fn lacks_memory(fault: SecretFault) -> bool
+    ensures { IsTrue result ↔ LacksMemory fault }
+{
+    match fault {
+        SecretFault::OutOfMemory => true,
+        SecretFault::NoFile | SecretFault::ReadFailed => false,
+        SecretFault::OpenToOthers | SecretFault::BadLine { .. } => false,
     }
 }
 
@@ -179,9 +226,13 @@ impl Fault for CommandFault {
             CommandFault::BadPatience
             | CommandFault::BadRefs
             | CommandFault::NotText(_)
-            | CommandFault::BadFile { .. } => 3,
+            | CommandFault::BadFile { .. }
+            | CommandFault::SameToken(_) => 3,
+            CommandFault::NoToken { fault, .. } => secret_status(*fault),
             CommandFault::NoFile(_)
+            | CommandFault::NoPassword { .. }
             | CommandFault::NoPage
+            | CommandFault::NoLines
             | CommandFault::ReadFailed
             | CommandFault::WriteFailed
             | CommandFault::NoSocket
@@ -203,6 +254,9 @@ impl Fault for CommandFault {
             CommandFault::BadRefs => Some("required is its only value"),
             CommandFault::NoPage => Some(
                 "another program may have the address, or it isn't this machine's",
+            ),
+            CommandFault::NoLines => Some(
+                "another program or file may have the address or the path, or the folder may not be written to",
             ),
             CommandFault::NoLogs(fault) => log_reason(fault),
             CommandFault::NoJournal(refused) => journal_reason(&refused.fault),
@@ -287,6 +341,7 @@ impl From<DayFault> for CommandFault {
             DayFault::NoLogs(fault) => CommandFault::NoLogs(fault),
             DayFault::NoJournal(refused) => CommandFault::NoJournal(refused),
             DayFault::NoPage => CommandFault::NoPage,
+            DayFault::NoLines => CommandFault::NoLines,
             DayFault::NoSocket => CommandFault::NoSocket,
             DayFault::NoThread => CommandFault::NoThread,
             DayFault::OutOfMemory => CommandFault::OutOfMemory,

@@ -1,48 +1,53 @@
 //! `dispatch run`: the day of a desk's file runs, against real exchanges and simulated ones.
 //!
 //! Promises:
-//! - The exit status is 0, or that of the fault (`run_run`). A fault of the words or of the file prints nothing. At 0 a
-//!   file's bytes spell a configuration, and either what it says is printed (`check_text`), or a day of this
-//!   configuration was audited and is told: one that began new where no journal is kept (`IsToldDay`), and one that may
-//!   have had lives before where one is (`IsToldOver`). Of that day no worker gave its session up or left a leg in
-//!   doubt, and of no venue is a report on the audited book's list of what it didn't take (`IsWhole`). The day's text
-//!   is printed last (`EndsWell`). A day that leaves such things open is audited, told and printed too (`EndsOpen`).
-//!   Which bytes a file gives, that a fault of the input is told, and what the output holds when the day is over, no
-//!   contract says.
+//! - The exit status is 0, or that of the fault (`run_run`). A fault of the words, of the file or of a password prints
+//!   nothing. At 0 a file's bytes spell a configuration, and either what it says is printed (`check_text`), or a day of
+//!   this configuration was audited and is told: one that began new where no journal is kept (`IsToldDay`), and one
+//!   that may have had lives before where one is (`IsToldOver`). Of that day no worker gave its session up or left a
+//!   leg in doubt, and of no venue is a report on the audited book's list of what it didn't take (`IsWhole`). The day's
+//!   text is printed last (`EndsWell`). A day that leaves such things open is audited, told and printed too
+//!   (`EndsOpen`). Which bytes a file gives, that a fault of the input is told, and what the output holds when the day
+//!   is over, no contract says.
 //! - What is printed behind a day is exactly the stated text of what became of it (`day_text`, or `json_text` with
 //!   `--json`).
 //! - Out of memory while the file is read is never told as a fault of the file (`file_fault`, private).
-//! - The folder of the logs is that which the file names, from the file's own folder on (`log_folder`, private). So is
-//!   that of the journals, with the day's date where the file has `%Y-%m-%d` (`journal_folder`, private). Which day it
-//!   is no contract says.
+//! - The folder of the logs is that which the file names, from the file's own folder on (`log_folder`, private). So are
+//!   that of the Unix socket (`socket_path`, private) and that of the journals, with the day's date where the file has
+//!   `%Y-%m-%d` (`journal_folder`, private). Which day it is no contract says.
 //! - That `--check` dials nothing, and that a day runs as the command line asks, is only tested.
 //!
 //! See `docs/run.md`.
 #![tactic(auto)]
 
-ghost use Rattle.std.specs.Prelude.{◌≡◌, None, option_map, string_bytes, IfErr, IfOk, OnOk};
+ghost use Rattle.std.specs.Prelude.{◌≡◌, None, length, option_map, string_bytes, IfErr, IfOk, OnOk};
 ghost use Rattle.desk_config.specs.Apart.{AreVenues};
 ghost use Rattle.run_command.specs.Ending.{end_text, PrintsDay, PrintsWholeDay};
 ghost use Rattle.run_command.specs.Folder.{folder_of, journal_at, journal_folder};
 ghost use Rattle.run_command.specs.Running.{EndsRun, ExitsSo, IfOpen, IsOfDay};
 
-mod check;
 mod end_json;
 mod fault;
 mod file;
 mod folder;
 mod options;
+mod passwords;
 mod text;
 mod today;
+mod tokens;
 
-use crate::check::check_text;
 use crate::file::read_file;
 use crate::folder::folder_of;
+use crate::passwords::read_passwords;
 use crate::today::today;
+use crate::tokens::read_tokens;
 use command_line::{finish, print};
+use config_check::check_text;
 use desk_config::{Day, DeskConfig};
-use desk_run::{DayOptions, DeskDay, JournalAt, run_day};
+use desk_day::DeskDay;
+use desk_run::{DayOptions, JournalAt, run_day};
 use desk_talk::DeskInput;
+use dressed_link::Secret;
 pub use end_json::json_text;
 pub use fault::CommandFault;
 use json_lines::Form;
@@ -112,10 +117,13 @@ where
 {
     let options = read_options(alloc, words)?;
     let config = read_file(rt, alloc, options.file)?;
+    let tokens = read_tokens(rt, alloc, options.file, config.users.as_slice())?;
+    let secrets = read_passwords(rt, alloc, options.file, config.venues.as_slice())?;
     if options.checks {
         return Ok(print(&check_text(alloc, &config)?, out)?);
     }
     let folder = log_folder(alloc, options.file, &config)?;
+    let socket = socket_path(alloc, options.file, &config)?;
     let day = today(rt);
     let journal = journal_folder(alloc, options.file, &config, day)?;
     let options_of_day = DayOptions {
@@ -123,8 +131,10 @@ where
         form: options.form,
         folder: folder.as_deref(),
         journal: journal_at(&config, journal.as_deref(), day),
+        tokens: tokens.as_slice(),
+        socket: socket.as_deref(),
     };
-    run_config(rt, alloc, &config, options_of_day, input, out)
+    run_config(rt, alloc, &config, options_of_day, secrets, input, out)
 }
 
 /// The folder of the logs that the configuration of a file asks for, if it does.
@@ -133,6 +143,16 @@ fn log_folder(alloc: Global, file: &str, config: &DeskConfig) -> Result<Option<S
 {
     match &config.log {
         Some(folder) => Ok(Some(folder_of(alloc, file, folder.as_str())?)),
+        None => Ok(None),
+    }
+}
+
+/// The path of the Unix socket that the configuration of a file asks for, if it does.
+fn socket_path(alloc: Global, file: &str, config: &DeskConfig) -> Result<Option<String>, AllocError>
+    ensures { IfOk result (λ found. option_map string_bytes found ≡ option_map (folder_of file.now) config.now.socket) }
+{
+    match &config.socket {
+        Some(socket) => Ok(Some(folder_of(alloc, file, socket.as_str())?)),
         None => Ok(None),
     }
 }
@@ -180,12 +200,13 @@ fn end_text(alloc: Global, form: Form, day: &DeskDay) -> Result<Vec<u8>, AllocEr
     }
 }
 
-/// Runs the day of a configuration.
+/// Runs the day of a configuration, with the password of each venue that has one.
 fn run_config<R, I, W>(
     rt: &R,
     alloc: Global,
     config: &DeskConfig,
     options: DayOptions<'_>,
+    secrets: Vec<Option<Secret>>,
     input: &mut I,
     out: &mut W,
 ) -> Result<(), CommandFault>
@@ -200,6 +221,7 @@ where
     I: Read + AsRawFd,
     W: Write + Send,
     requires venues { AreVenues config.now.venues.items }
+    requires secrets { length secrets.items ≡ length config.now.venues.items }
     requires journal { config.now.journal ≡ None → options.journal ≡ None }
     ensures ok { OnOk result (PrintsWholeDay config.now (W.contents out.new)) }
     ensures left { IfErr result (IfOpen (PrintsDay config.now (W.contents out.new))) }
@@ -207,7 +229,7 @@ where
 {
     let fd = input.as_raw_fd();
     let input = DeskInput { input, fd };
-    let day = run_day(rt, alloc, config, options, input, &mut *out)?;
+    let day = run_day(rt, alloc, config, options, secrets, input, &mut *out)?;
     print(&end_text(alloc, options.form, &day)?, out)?;
     match day.broken_off {
         Some(fault) => Err(CommandFault::from(fault)),

@@ -3,9 +3,9 @@ ghost use Rattle.std.specs.Prelude.{◌≡◌, ◌++◌, IfOk, OnOk, string_byte
 ghost use Rattle.std.specs.List.{flat_map};
 ghost use Rattle.run_command.specs.Text.{booked_text, day_text, doubt_line, sweep_line, totals_lines, totals_of, unbooked_line};
 
+use desk_day::{DeskDay, VenueDoubt};
 use desk_executions::Execution;
 use desk_news::{DayTotals, PaidSweep, doubt_line};
-use desk_run::{DeskDay, VenueDoubt};
 use session_worker::DayReport;
 use std::alloc::{AllocError, Global};
 

@@ -8,11 +8,13 @@ use Rattle.day_restart.specs.declared.fault.RestartFault.{RestartFault}
 use Rattle.day_restart.specs.declared.fault.RestartFault.TheVariants as journal
 use Rattle.journal_folder.specs.declared.fault.FolderFault.{FolderFault}
 use Rattle.journal_folder.specs.declared.fault.FolderFault.TheVariants as folder
+use Rattle.secret_file.specs.declared.fault.SecretFault.{SecretFault}
+use Rattle.secret_file.specs.declared.fault.SecretFault.TheVariants as secret
 use Rattle.desk_config.specs.declared.config.DeskConfig.{DeskConfig}
 use Rattle.desk_theorem.proofs.DayOver.{the_desk_theorem_over_lives}
 use Rattle.day_sweeps.specs.Paid.{parts_of}
 use Rattle.run_command.specs.Ending.{EndsOpen, EndsWell, PrintsDay, PrintsWholeDay}
-use Rattle.run_command.specs.Fault.{fault_status, log_status, folder_status, journal_status}
+use Rattle.run_command.specs.Fault.{fault_status, log_status, folder_status, journal_status, secret_status}
 use Rattle.run_command.specs.Running.{EndsRun, ExitsSo, IfOpen}
 use Rattle.run_command.specs.declared.fault.CommandFault.{CommandFault}
 use Rattle.run_command.specs.declared.fault.CommandFault.TheVariants.{
@@ -23,7 +25,11 @@ use Rattle.run_command.specs.declared.fault.CommandFault.TheVariants.{
   NoFile,
   NotText,
   BadFile,
+  NoToken,
+  SameToken,
   NoPage,
+  NoPassword,
+  NoLines,
   NoLogs,
   NoJournal,
   ReadFailed,
@@ -43,7 +49,7 @@ use Rattle.desk_config.specs.declared.venue.Venue.{Venue}
 use Rattle.desk_venues.specs.Venues.{desk_end}
 use Rattle.fix_tags.specs.Config.{IsConfig}
 
--- a fault of logs or journals has a status from 3 to 5
+-- a fault of logs, journals or the file of a secret has a status from 3 to 5
 abbrev IsFromThree : ℕ → Type 0
 IsFromThree status = (3 ≤ status) × (status ≤ 5)
 
@@ -72,6 +78,13 @@ of_journals (journal.DeskLine line) = (omega arith, omega arith)
 of_journals (journal.VenueLine name line) = (omega arith, omega arith)
 of_journals journal.OutOfMemory = (omega arith, omega arith)
 
+of_secrets : (fault : SecretFault) → IsFromThree (secret_status fault)
+of_secrets secret.NoFile = (omega arith, omega arith)
+of_secrets secret.OpenToOthers = (omega arith, omega arith)
+of_secrets (secret.BadLine most) = (omega arith, omega arith)
+of_secrets secret.ReadFailed = (omega arith, omega arith)
+of_secrets secret.OutOfMemory = (omega arith, omega arith)
+
 from_three : (n status : ℕ) → IsFromThree status → n ≡ status → (3 ≤ n) × (n ≤ 5)
 from_three n status its is = (omega (arith, its.0, is), omega (arith, its.1, is))
 
@@ -83,8 +96,13 @@ of_run BadPatience is = omega (arith, is)
 of_run BadRefs is = omega (arith, is)
 of_run (NotText name) is = omega (arith, is)
 of_run (BadFile name fault) is = omega (arith, is)
+of_run (SameToken user) is = omega (arith, is)
+of_run (NoToken user file fault) is =
+    let its = from_three 0 (secret_status fault) (of_secrets fault) is in omega (arith, its)
 of_run (NoFile name) is = omega (arith, is)
 of_run NoPage is = omega (arith, is)
+of_run (NoPassword venue file why) is = omega (arith, is)
+of_run NoLines is = omega (arith, is)
 of_run ReadFailed is = omega (arith, is)
 of_run WriteFailed is = omega (arith, is)
 of_run NoSocket is = omega (arith, is)
@@ -106,8 +124,13 @@ at_seven said BadPatience is left = absurd (omega (arith, is))
 at_seven said BadRefs is left = absurd (omega (arith, is))
 at_seven said (NotText name) is left = absurd (omega (arith, is))
 at_seven said (BadFile name fault) is left = absurd (omega (arith, is))
+at_seven said (SameToken user) is left = absurd (omega (arith, is))
+at_seven said (NoToken user file fault) is left =
+    let its = from_three 7 (secret_status fault) (of_secrets fault) is in absurd (omega (arith, its))
 at_seven said (NoFile name) is left = absurd (omega (arith, is))
 at_seven said NoPage is left = absurd (omega (arith, is))
+at_seven said (NoPassword venue file why) is left = absurd (omega (arith, is))
+at_seven said NoLines is left = absurd (omega (arith, is))
 at_seven said ReadFailed is left = absurd (omega (arith, is))
 at_seven said WriteFailed is left = absurd (omega (arith, is))
 at_seven said NoSocket is left = absurd (omega (arith, is))
@@ -131,8 +154,13 @@ at_nine said BadPatience is left = absurd (omega (arith, is))
 at_nine said BadRefs is left = absurd (omega (arith, is))
 at_nine said (NotText name) is left = absurd (omega (arith, is))
 at_nine said (BadFile name fault) is left = absurd (omega (arith, is))
+at_nine said (SameToken user) is left = absurd (omega (arith, is))
+at_nine said (NoToken user file fault) is left =
+    let its = from_three 9 (secret_status fault) (of_secrets fault) is in absurd (omega (arith, its))
 at_nine said (NoFile name) is left = absurd (omega (arith, is))
 at_nine said NoPage is left = absurd (omega (arith, is))
+at_nine said (NoPassword venue file why) is left = absurd (omega (arith, is))
+at_nine said NoLines is left = absurd (omega (arith, is))
 at_nine said ReadFailed is left = absurd (omega (arith, is))
 at_nine said WriteFailed is left = absurd (omega (arith, is))
 at_nine said NoSocket is left = absurd (omega (arith, is))

@@ -7,7 +7,7 @@ use Rattle.desk_config.specs.declared.venue.Venue.{Venue}
 use Rattle.desk_theorem.specs.DeskOverLives.{IsSafeAtOver}
 use Rattle.desk_venues.specs.Starts.{any_wording}
 use Rattle.desk_venues.specs.Venues.{desk_end}
-use Rattle.run_command.specs.Checked.{check_text}
+use Rattle.config_check.specs.Checked.{check_text}
 use Rattle.run_command.specs.Ending.{EndsOpen, PrintsDay, PrintsWholeDay}
 use Rattle.run_command.specs.Running.{ExitsSo}
 use Rattle.session_worker.specs.Audit.{counted_of}

@@ -4,5 +4,6 @@ pub mod Example
 pub mod Forms
 pub mod Builds
 pub mod Dialect
+pub mod Dress
 pub mod Lemmas
 pub mod Head

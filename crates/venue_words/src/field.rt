@@ -3,7 +3,7 @@
 ghost use Rattle.std.specs.Prelude.{◌≡◌, ◌==◌, position};
 ghost use Rattle.std.specs.Option.{option_map};
 ghost use Rattle.dialect.specs.Split.{parts_round};
-ghost use Rattle.venue_words.specs.Field.{field_by, field_of, tag_of};
+ghost use Rattle.venue_words.specs.Field.{field_of, pair_by, pair_of, tag_of};
 
 use crate::data_tag::{is_data_tag, is_session_tag};
 use crate::fault::FieldFault;
@@ -45,28 +45,37 @@ fn tag_of(text: &[u8]) -> Option<u32>
     }
 }
 
-fn field_by(tag: Option<u32>, value: Option<FieldText>) -> Result<Extra, FieldFault>
-    ensures { result ≡ field_by tag value }
+/// The field of a tag and a value, where both are there.
+fn pair_by(tag: Option<u32>, value: Option<FieldText>) -> Option<Extra>
+    ensures { result ≡ pair_by tag value }
 {
     let (Some(tag), Some(value)) = (tag, value) else {
-        return Err(FieldFault::NoField);
+        return None;
     };
-    if is_session_tag(tag) {
-        Err(FieldFault::OfSession)
-    } else if is_data_tag(tag) {
-        Err(FieldFault::OfData)
-    } else {
-        let value = MarkValue::try_from(value.as_bytes()).unwrap();
-        Ok(Extra { tag, value })
-    }
+    let value = MarkValue::try_from(value.as_bytes()).unwrap();
+    Some(Extra { tag, value })
 }
 
-/// The field that a text is.
+/// The field that a text is, of any tag.
+pub(crate) fn read_pair(text: &[u8]) -> Option<Extra>
+    ensures { result ≡ pair_of text.now }
+{
+    let (tag, value) = parts_of(text)?;
+    pair_by(tag_of(tag), FieldText::new(value))
+}
+
+/// The field of an order that a text is.
 pub(crate) fn read_field(text: &[u8]) -> Result<Extra, FieldFault>
     ensures { result ≡ field_of text.now }
 {
-    let Some((tag, value)) = parts_of(text) else {
+    let Some(field) = read_pair(text) else {
         return Err(FieldFault::NoField);
     };
-    field_by(tag_of(tag), FieldText::new(value))
+    if is_session_tag(field.tag) {
+        Err(FieldFault::OfSession)
+    } else if is_data_tag(field.tag) {
+        Err(FieldFault::OfData)
+    } else {
+        Ok(field)
+    }
 }

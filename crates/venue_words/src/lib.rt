@@ -5,11 +5,14 @@
 //!   stands twice. One is made of a dialect (`preset_words`) by what departs from it: the example of a leg's number
 //!   (`with_id`), the mark, prices, symbols, and the fields that every order carries besides. Each answers exactly the
 //!   table with that, or says that it isn't taken, and of a field why (`field_fault_text`).
+//! - A `Dress` has fields that a header and a Logon take from a venue, and no tag twice (`is_dress`). One more is
+//!   taken, or refused with the reason (`with_header`, `with_logon`).
 //! - `VenueDialect` spells as the dialect, or as the table, that it is made of (`dialect_of`).
 //! - A table at the head of a log is exactly `table_text`.
 #![tactic(auto)]
 
 mod data_tag;
+mod dress;
 mod example;
 mod fault;
 mod field;
@@ -21,6 +24,7 @@ mod table;
 mod venue_dialect;
 mod words;
 
+pub use dress::{Dress, DressFields, MAX_DRESS};
 pub use fault::FieldFault;
 pub use head::table_text;
 pub use table::WordTable;

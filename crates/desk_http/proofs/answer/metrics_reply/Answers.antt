@@ -10,5 +10,9 @@ returns g c = record {
   sums_by_the_day = c.in_ok-sums.ensures;
   refusals = c.refusals-refusals.result;
   refusals_by_the_day = c.refusals-refusals.ensures;
+  wrong_tokens = c.wrong_tokens-wrong_tokens.result;
+  guesses_by_the_day = c.wrong_tokens-wrong_tokens.ensures;
+  used = c.process_use-used.result;
+  uses_by_the_day = c.process_use-used.ensures;
   answer = search rules;
 }

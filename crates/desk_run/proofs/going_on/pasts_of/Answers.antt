@@ -1,4 +1,4 @@
-use Rattle.std.proofs.Common.{rules, ◌≡◌, ◌∙◌, ◌∷◌, [], ◌++◌, map, take, sym, ap}
+use Rattle.std.proofs.Common.{rules, ◌≡◌, ◌∙◌, ◌∷◌, [], ◌++◌, map, take, refl, sym, ap}
 use Rattle.std.proofs.lemmas.List.{take_more}
 use Rattle.venue_words.specs.Dialect.{dialect_of}
 use Rattle.desk_run.proofs.PastLines.{found_pushed, lines_pushed}
@@ -19,4 +19,6 @@ loop-venue-preserved g c =
           c.venue-item.result at pushed taken c.dialect.ensures so_far.dialects;
       lines = lines_pushed (λ p. map (λ l. l.items) p.lines.now) (λ f. f.lines) c.loop-venue.pasts.items _ _
           c.args.files.now.venues.items at c.len.result pushed here c.venue-lines.ensures so_far.lines;
+      names = found_pushed (λ p. p.name.now) (λ v. v.name) c.loop-venue.pasts.items _ _ venues c.venue-item.result at
+          pushed taken refl so_far.names;
     }

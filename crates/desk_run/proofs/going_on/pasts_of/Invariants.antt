@@ -8,4 +8,5 @@ invariant-loop-venue g l = record {
   dialects : map (λ p. p.dialect) l.pasts.items ≡ map (λ v. dialect_of v.words) (take l.venue-index l.venues);
   lines : map (λ p. map (λ l. l.items) p.lines.now) l.pasts.items
       ≡ map (λ f. f.lines) (take l.venue-index l.files.venues.items);
+  names : map (λ p. p.name.now) l.pasts.items ≡ map (λ v. v.name) (take l.venue-index l.venues);
 }

@@ -6,8 +6,8 @@ use Rattle.desk_config.specs.declared.venue.Venue.{Venue}
 use Rattle.venue_words.specs.declared.venue_dialect.VenueDialect.{VenueDialect}
 use Rattle.venue_words.specs.Dialect.{dialect_of}
 use Rattle.day_restart.specs.Restored.{IsNew}
-use Rattle.desk_run.specs.Opening.{new_starts}
-use Rattle.desk_run.proofs.Begun.{all_are_new, as_many_go_on, as_many_new, begun_from}
+use Rattle.desk_day.specs.Opening.{new_starts}
+use Rattle.desk_day.proofs.Begun.{all_are_new, as_many_go_on, as_many_new, begun_from}
 use Rattle.desk_run.proofs.going_on.restored.Goals as goal
 
 pub restore_day-done-requires-clause-starts : goal.restore_day-done-requires-clause-starts

@@ -6,10 +6,10 @@ use Rattle.desk_config.specs.declared.venue.Venue.{Venue}
 use Rattle.desk_venues.specs.declared.day_fault.DayFault.{DayFault}
 use Rattle.desk_venues.specs.Faults.{IsNoMismatch}
 use Rattle.desk_venues.specs.Starts.{workers_from}
-use Rattle.desk_run.specs.Audited.{AreBegun}
-use Rattle.desk_run.specs.Opening.{new_starts}
-use Rattle.desk_run.proofs.Begun.{all_kept, as_many_behind, as_many_new, begun_new_day}
-use Rattle.desk_run.proofs.NewStarts.{new_day_workers}
+use Rattle.desk_day.specs.Audited.{AreBegun}
+use Rattle.desk_day.specs.Opening.{new_starts}
+use Rattle.desk_day.proofs.Begun.{all_kept, all_say, as_many_behind, as_many_new, begun_new_day}
+use Rattle.desk_day.proofs.NewStarts.{new_day_workers}
 use Rattle.desk_run.proofs.running.named_day.Goals as goal
 
 -- a day without journals
@@ -64,3 +64,7 @@ held_day-requires-in-Some-clause-begun g c κs within =
     (map (λ (j : LinesTold). Some j) journals))) c.as_slice-venues.ensures.value
     (c.in_ok-begun-in-Some.ensures.begun (map (λ (j : LinesTold). Some j) journals)
     (all_kept _ journals c.in_ok-past-in-Some.ensures.venues))
+
+pub returns-after-is_new-clause-kept : goal.returns-after-is_new-clause-kept
+returns-after-is_new-clause-kept g c =
+    λ some. c.held_day-in-Some.ensures.kept (all_say c.in_ok-past-in-Some.past.venues.items)

@@ -1,5 +1,5 @@
 use Rattle.std.proofs.Common.{◌∙◌}
-use Rattle.desk_run.proofs.Auditing.{told_from}
+use Rattle.desk_day.proofs.Auditing.{told_from}
 use Rattle.desk_run.proofs.running.run_open.Goals as goal
 
 pub close_day-requires-clause-workers : goal.close_day-requires-clause-workers

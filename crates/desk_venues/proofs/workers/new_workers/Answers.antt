@@ -1,10 +1,12 @@
-use Rattle.std.proofs.Common.{rules, ◌≡◌, ◌+◌, [], ◌∷◌, length, drop, map, refl, sym, ap, ◌∙◌, arith}
+use Rattle.std.proofs.Common.{rules, ◌≡◌, ◌+◌, Some, [], ◌∷◌, length, drop, map, refl, sym, ap, ◌∙◌, arith}
 use Rattle.std.proofs.lemmas.List.Elements.{All-head, All-same, All-rest}
 use Rattle.std.proofs.lemmas.List.{drop_more}
 use Rattle.std.proofs.Math.ListN.{drop_of_length-le}
+use Rattle.dressed_link.specs.Links.{dress_on, wire_over}
 use Rattle.desk_venues.specs.Starts.{workers_from}
 use Rattle.desk_venues.proofs.Addressing.{at_first}
 use Rattle.desk_venues.proofs.Starting.{starts_more, starts_over}
+use Rattle.desk_venues.proofs.Wearing.{first_wears}
 use Rattle.desk_venues.proofs.workers.new_workers.Goals as goal
 
 pub loop-venue-init : goal.loop-venue-init
@@ -19,6 +21,7 @@ loop-venue-init g c =
       starts_are = rw c.new-workers.ensures.items refl;
       new_links = rw links c.requires.new;
       their_links = rw links c.requires.at;
+      their_dresses = rw links c.requires.dressed;
       links_left = omega (arith, links_are, c.requires.links);
       made = rw c.new-workers.ensures.items refl;
       starts_left = omega (arith, starts_are, c.requires.starts);
@@ -29,16 +32,23 @@ pub new_worker-requires-clause-link : goal.new_worker-requires-clause-link
 new_worker-requires-clause-link g c =
     let link = c.in-Some-pop_front-2.link in
     let links = c.pop_front-in-loop-venue-2.new.self.items in
-    All-head (λ k. k.link.told.traffic ≡ []) link links
-    (All-same (λ k. k.link.told.traffic ≡ []) (link ∷ links) c.loop-venue.links.items
+    All-head (λ k. wire_over k.link.dresser (Some k.link.link.told.traffic) ≡ Some []) link links
+    (All-same (λ k. wire_over k.link.dresser (Some k.link.link.told.traffic) ≡ Some []) (link ∷ links) c.loop-venue.links.items
     (sym c.in-Some-pop_front-2.ensures.items) c.loop-venue.invariant.new_links)
 
 pub new_worker-requires-clause-at : goal.new_worker-requires-clause-at
 new_worker-requires-clause-at g c =
     let left = drop_more c.args.venues.now c.loop-venue.venue-index c.venue-item.result c.loop-venue-test.true
     ∙ ap (λ v. v ∷ drop (c.loop-venue.venue-index + 1) c.args.venues.now) (sym c.venue-item.is) in
-    (at_first (λ k. k.link.goal) _ _ c.venue-item.result c.loop-venue.links.items _ c.in-Some-pop_front-2.link left
+    (at_first (λ k. k.link.link.goal) _ _ c.venue-item.result c.loop-venue.links.items _ c.in-Some-pop_front-2.link left
     c.in-Some-pop_front-2.ensures.items c.loop-venue.invariant.their_links).0
+
+pub new_worker-requires-clause-dressed : goal.new_worker-requires-clause-dressed
+new_worker-requires-clause-dressed g c =
+    let left = drop_more c.args.venues.now c.loop-venue.venue-index c.venue-item.result c.loop-venue-test.true
+    ∙ ap (λ v. v ∷ drop (c.loop-venue.venue-index + 1) c.args.venues.now) (sym c.venue-item.is) in
+    (first_wears (λ k. dress_on k.link.dresser) _ _ c.venue-item.result c.loop-venue.links.items _
+    c.in-Some-pop_front-2.link left c.in-Some-pop_front-2.ensures.items c.loop-venue.invariant.their_dresses).0
 
 pub loop-venue-preserved : goal.loop-venue-preserved
 loop-venue-preserved g c =
@@ -67,10 +77,12 @@ loop-venue-preserved g c =
           c.venue-item.result c.loop-venue.starts.items starts start (map told c.loop-venue.journals.items)
           (map told journals) (told journal) c.in_ok-push.ensures.items left first_start
           (ap (map told) first_journal) c.in_ok-new_worker.ensures so_far.starts_are;
-      new_links = All-rest (λ k. k.link.told.traffic ≡ []) link links c.loop-venue.links.items first_link
+      new_links = All-rest (λ k. wire_over k.link.dresser (Some k.link.link.told.traffic) ≡ Some []) link links c.loop-venue.links.items first_link
           so_far.new_links;
-      their_links = (at_first (λ k. k.link.goal) _ _ c.venue-item.result c.loop-venue.links.items links link left
+      their_links = (at_first (λ k. k.link.link.goal) _ _ c.venue-item.result c.loop-venue.links.items links link left
           first_link so_far.their_links).1;
+      their_dresses = (first_wears (λ k. dress_on k.link.dresser) _ _ c.venue-item.result c.loop-venue.links.items links
+          link left first_link so_far.their_dresses).1;
       links_left = omega (arith, links_were, links_left);
       made = search rules;
       starts_left = omega (arith, starts_were, starts_left);

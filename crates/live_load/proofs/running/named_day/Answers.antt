@@ -3,8 +3,8 @@ use Rattle.std.specs.Prelude.{Result, IfErr, IsErrAnd}
 use Rattle.desk_venues.specs.declared.day_fault.DayFault.{DayFault}
 use Rattle.desk_venues.specs.Faults.{IsNoMismatch}
 use Rattle.session_worker.specs.Places.{place, new_places}
-use Rattle.desk_run.proofs.Begun.{as_many_new, begun_new_day, begun_places}
-use Rattle.desk_run.proofs.NewStarts.{new_day_workers}
+use Rattle.desk_day.proofs.Begun.{as_many_new, begun_new_day, begun_places}
+use Rattle.desk_day.proofs.NewStarts.{new_day_workers}
 use Rattle.live_load.proofs.CallersLeft.{are_called}
 use Rattle.live_load.proofs.LiveDays.{live_day}
 use Rattle.live_load.proofs.running.named_day.Goals as goal
@@ -18,6 +18,10 @@ same_refusal (Err given) fault e none = subst IsNoMismatch (sym e) none
 pub returns-in_err-ended-clause-only : goal.returns-in_err-ended-clause-only
 returns-in_err-ended-clause-only g c =
     same_refusal c.from_residual-in_err-ended.result _ c.from_residual-in_err-ended.ensures.1 c.in_err-ended.ensures.only
+
+pub returns-in_err-seats-clause-only : goal.returns-in_err-seats-clause-only
+returns-in_err-seats-clause-only g c =
+    same_refusal c.from_residual-in_err-seats.result _ c.from_residual-in_err-seats.ensures.1 (search rules)
 
 pub open_day-requires-clause-starts : goal.open_day-requires-clause-starts
 open_day-requires-clause-starts g c =

@@ -20,3 +20,18 @@ pub returns-in-DeskName-clause-writes : goal.returns-in-DeskName-clause-writes
 returns-in-DeskName-clause-writes g c =
     λ plain written.
     rw c.in-DeskName.is (simp append_assoc (c.write-in-DeskName.ensures.writes plain written))
+
+pub returns-in-Right-clause-writes : goal.returns-in-Right-clause-writes
+returns-in-Right-clause-writes g c =
+    λ plain written.
+    rw c.in-Right.is (simp append_assoc (c.write-in-Right.ensures.writes plain written))
+
+pub returns-in-RightTwice-clause-writes : goal.returns-in-RightTwice-clause-writes
+returns-in-RightTwice-clause-writes g c =
+    λ plain written.
+    rw c.in-RightTwice.is (simp append_assoc (c.write-in-RightTwice.ensures.writes plain written))
+
+pub returns-in-Address-clause-writes : goal.returns-in-Address-clause-writes
+returns-in-Address-clause-writes g c =
+    λ plain written.
+    rw c.in-Address.is (simp append_assoc (c.write-in-Address.ensures.writes plain written))

@@ -2,12 +2,12 @@ use Rattle.std.proofs.Common.{◌≡◌, ◌++◌, ◌∷◌, List, ℕ, map, re
 use Rattle.std.specs.Prelude.{Vec}
 use Rattle.std.specs.declared.alloc.Global.{Global}
 use Rattle.journal_folder.specs.Head.{head_text}
-use Rattle.journal_folder.proofs.Files.{both_none, none_behind}
+use Rattle.journal_folder.proofs.Files.{none_behind}
 use Rattle.journal_folder.proofs.folder_journal.FolderJournal.begin_next.Goals as goal
 
 pub invariant_of-self-2 : goal.invariant_of-self-2
 invariant_of-self-2 g c =
-    let old = c.forget.new.self in
+    let old = c.args.self.now in
     let new = c.tell_all.new.writer in
     let waits : List (List ℕ) = map (λ (v : Vec ℕ Global). v.items) old.waiting.items in
     let all : new.told.lines.unkept ≡ waits =
@@ -17,9 +17,6 @@ invariant_of-self-2 g c =
     let begins = old.begins in
     let started = old.started in
     record {
-      next_is = both_none old.has_next new.has_next old.next.items new.next.items c.forget.ensures.none
-          (c.in_ok-tell_all.ensures.none c.in_ok-writer.ensures.none);
-      next_fits = λ has. absurd (cc);
       told_is = old.told_is ∙ sym old.waiting_is ∙ sym all;
       waiting_is = sym all;
       counted = old.counted;

@@ -3,12 +3,12 @@ use Rattle.std.specs.Prelude.{Vec}
 use Rattle.std.specs.declared.alloc.Global.{Global}
 use Rattle.journal_tape.specs.Told.{LinesTold, all_kept}
 use Rattle.journal_folder.specs.Head.{head_text}
-use Rattle.journal_folder.proofs.Files.{all_waiting, both_none, counted_more, gone_past, kept_behind}
+use Rattle.journal_folder.proofs.Files.{all_waiting, counted_more, gone_past, kept_behind}
 use Rattle.journal_folder.proofs.folder_journal.FolderJournal.keep_here.Goals as goal
 
 pub invariant_of-self : goal.invariant_of-self
 invariant_of-self g c =
-    let old = c.forget.new.self in
+    let old = c.args.self.now in
     let new = c.keep_lines.new.self in
     let told = old.told.lines in
     let head = head_text old.file old.start old.place.words.now in
@@ -21,8 +21,6 @@ invariant_of-self g c =
     all_waiting old.waiting.items told.unkept (old.waiting_is ∙ sym old.told_is) in
     let started = old.started in
     record {
-      next_is = both_none old.has_next new.has_next old.next.items new.next.items c.forget.ensures.none c.keep_lines.ensures.none;
-      next_fits = λ has. absurd (cc);
       told_is = ap (λ (t : LinesTold). t.unkept) is ∙ sym (ap (λ (t : LinesTold). t.unkept) kept_is);
       waiting_is = ap (λ (l : List (Vec ℕ Global)). map (λ (v : Vec ℕ Global). v.items) l) c.clear.ensures.items
           ∙ sym (ap (λ (t : LinesTold). t.unkept) kept_is);

@@ -1,10 +1,6 @@
-use Rattle.std.proofs.Common.{◌++◌, Bool, ap, ◌∙◌}
-use Rattle.journal_tape.specs.Told.{LinesTold, next_line}
+use Rattle.std.proofs.Common.{◌++◌, ap, ◌∙◌}
+use Rattle.journal_tape.specs.Told.{LinesTold}
 use Rattle.journal_folder.proofs.folder_journal.FolderJournalJournal.keep.Goals as goal
-
-pub returns-in_err-begin_next-clause-none : goal.returns-in_err-begin_next-clause-none
-returns-in_err-begin_next-clause-none g c =
-    ap (λ (b : Bool). next_line b c.begin_next.new.self.next.items) c.begin_next.ensures.none
 
 pub returns-then-keep_here-2-clause-kept : goal.returns-then-keep_here-2-clause-kept
 returns-then-keep_here-2-clause-kept g c =

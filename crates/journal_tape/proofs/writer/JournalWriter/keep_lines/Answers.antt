@@ -1,6 +1,6 @@
 use Rattle.std.proofs.Common.{◌≡◌, ◌+◌, ◌-◌, ◌++◌, [], true, List, ℕ, length, refl, sym, ap, ◌∙◌, subst, arith}
 use Rattle.journal_record.specs.Record.{lines_sum, lines_text}
-use Rattle.journal_tape.specs.Tape.{IsBetween, LeavesOnly, has_no_nul, text, zeros}
+use Rattle.journal_tape.specs.Tape.{IsBetween, has_no_nul, text, zeros}
 use Rattle.journal_tape.specs.Told.{LinesTold, all_kept, are_lines, unkept_text}
 use Rattle.journal_tape.proofs.Lines.{between_same, kept_sum, kept_text, lines_are, lines_clean, only_leaves, settled_lines, test-append, text_of_lines}
 use Rattle.journal_tape.proofs.Moments.{leaves_by}
@@ -19,8 +19,8 @@ commit-requires-clause-clean g c =
     subst (λ (l : List ℕ). has_no_nul l ≡ true) (sym (c.as_slice.ensures.value ∙ old.batch_is))
     (lines_clean (lines_sum 0 old.told.lines.kept) old.told.lines.unkept (lines_are old.told.lines.unkept old.clean_unkept))
 
-pub invariant_of-self-in-Ok : goal.invariant_of-self-in-Ok
-invariant_of-self-in-Ok g c =
+pub invariant_of-self : goal.invariant_of-self
+invariant_of-self g c =
     let old = c.args.self.now in
     let told = old.told.lines in
     let sound : old.is_sound ≡ true = c.if-not-self.false in
@@ -41,8 +41,6 @@ invariant_of-self-in-Ok g c =
       sum_is = kept_sum told old.sum old.sum_is ∙ ap (λ (t : LinesTold). lines_sum (lines_sum 0 t.kept) t.unkept) (sym is);
       ends = sym end ∙ settled.ends ∙ ap length after ∙ ap (λ (t : LinesTold). length (lines_text 0 t.kept)) (sym is);
       within = let within = settled.within in omega (arith, within, end);
-      next_is_line = λ has. absurd (cc);
-      next_fits = λ has. absurd (cc);
       file = λ still. settled.file
           ∙ ap (λ (l : List ℕ). l ++ zeros (old.room - (old.end + length c.as_slice.result.now))) after
           ∙ ap (λ (n : ℕ). lines_text 0 (told.kept ++ told.unkept) ++ zeros (old.room - n)) end
@@ -67,8 +65,6 @@ invariant_of-self-in-Err g c =
       sum_is = old.sum_is;
       ends = old.ends;
       within = old.within;
-      next_is_line = λ has. absurd (cc);
-      next_fits = λ has. absurd (cc);
       file = λ still. absurd (cc);
       durable = λ still. absurd (cc);
       leaves = λ f left. between_same (text (g.T.Tape.seen old.tape)) (lines_text 0 told.kept) c.as_slice.result.now

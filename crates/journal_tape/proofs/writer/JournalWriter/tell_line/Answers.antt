@@ -1,4 +1,4 @@
-use Rattle.std.proofs.Common.{◌≡◌, ◌-◌, ◌++◌, ◌∷◌, [], true, ℕ, length, sym, ap, ◌∙◌, subst}
+use Rattle.std.proofs.Common.{◌≡◌, ◌-◌, ◌++◌, ◌∷◌, [], true, length, sym, ap, ◌∙◌, subst}
 use Rattle.journal_record.specs.Record.{lines_sum, lines_text}
 use Rattle.journal_tape.specs.Tape.{IsBetween, text, zeros}
 use Rattle.journal_tape.specs.Told.{LinesTold, are_lines, unkept_text, with_line}
@@ -21,8 +21,6 @@ invariant_of-self-2 g c =
           ∙ ap (λ (t : LinesTold). lines_sum (lines_sum 0 t.kept) t.unkept) (sym is);
       ends = subst (λ (t : LinesTold). old.end ≡ length (lines_text 0 t.kept)) (sym is) old.ends;
       within = old.within;
-      next_is_line = λ has. absurd (cc);
-      next_fits = λ has. absurd (cc);
       file = λ sound. subst (λ (t : LinesTold). g.T.Tape.seen old.tape ≡ lines_text 0 t.kept ++ zeros (old.room - old.end)) (sym is)
           (old.file sound);
       durable = old.durable;

@@ -1,0 +1,2 @@
+pub mod VenueCheck
+pub mod Checked

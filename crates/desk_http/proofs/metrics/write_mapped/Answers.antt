@@ -1,0 +1,11 @@
+use Rattle.std.proofs.Common.{append_assoc}
+use Rattle.std.proofs.lemmas.Result.{on_ok_weaker}
+use Rattle.desk_http.specs.Metrics.{mapped_text}
+use Rattle.desk_http.proofs.metrics.write_mapped.Goals as goal
+
+pub returns : goal.returns
+unfolding mapped_text
+returns c =
+    on_ok_weaker c.write_sample.result
+    (λ said. rw said (rw c.in_ok-write_head.ensures (simp append_assoc)))
+    c.write_sample.ensures

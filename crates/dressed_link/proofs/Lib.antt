@@ -1,0 +1,4 @@
+pub mod Fields
+pub mod Fronts
+pub mod Keeping
+pub mod Passing
