@@ -1,9 +1,11 @@
-//! What threads wait for that have to hear of changes: a count of them, which whoever changes something raises.
+//! What threads tell one another by flags: a count of changes that any of them wait for, and that workers are to stop.
 //!
 //! Promises:
-//! - None: that a wait ends with a change, and that no change is missed, is only tested.
+//! - None: that a wait ends with a change, that no change is missed and that a worker stops is only tested.
 #![tactic(auto)]
 
 mod change_count;
+mod stop;
 
 pub use change_count::ChangeCount;
+pub use stop::Stop;

@@ -2,8 +2,8 @@
 use Rattle.std.proofs.Common.{◌≡◌, ◌≤◌, ℕ, List, length, map, slice_get, Some, ap, sym, ◌∙◌, arith}
 use Rattle.std.specs.Option.{option_map}
 use Rattle.std.proofs.lemmas.Option.{slice_get-map}
-use Rattle.day_restart.specs.declared.fault.RestartFault.{RestartFault}
-use Rattle.day_restart.specs.declared.fault.RestartFault.TheVariants.{Folder, Desk, Venue, Ended, DeskLine, VenueLine, OutOfMemory}
+use Rattle.journal_folder.specs.declared.restart_fault.RestartFault.{RestartFault}
+use Rattle.journal_folder.specs.declared.restart_fault.RestartFault.TheVariants.{Folder, Desk, Venue, Ended, DeskLine, VenueLine, OutOfMemory}
 use Rattle.day_restart.specs.Redoing.{IsVenueFault, IsVenuesFault}
 
 -- the fault of a line of one venue is one of these

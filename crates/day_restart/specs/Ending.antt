@@ -5,8 +5,8 @@ use Rattle.desk_words.specs.Printable.{shown}
 use Rattle.journal_words.specs.Desk.{DeskSaid, desk_said}
 use Rattle.journal_words.specs.Desk.DeskSaid.{Ends}
 use Rattle.journal_words.specs.declared.fault.WordsFault.{WordsFault}
-use Rattle.day_restart.specs.declared.fault.RestartFault.{RestartFault}
-use Rattle.day_restart.specs.declared.fault.RestartFault.TheVariants.{Folder, Desk, Venue, Ended, OutOfMemory}
+use Rattle.journal_folder.specs.declared.restart_fault.RestartFault.{RestartFault}
+use Rattle.journal_folder.specs.declared.restart_fault.RestartFault.TheVariants.{Folder, Desk, Venue, Ended, OutOfMemory}
 
 -- whether a line says that the day ended
 abbrev pub says_end : Result (StampParts × DeskSaid) WordsFault → Bool

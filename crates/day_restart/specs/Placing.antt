@@ -10,8 +10,8 @@ use Rattle.sweep_text.specs.Line.{line_says}
 use Rattle.sweep_release.specs.Desk.{DeskParts}
 use Rattle.journal_words.specs.Desk.{desk_said}
 use Rattle.session_worker.specs.Restoring.{StartParts, TakesMore}
-use Rattle.day_restart.specs.declared.fault.RestartFault.{RestartFault}
-use Rattle.day_restart.specs.declared.fault.RestartFault.TheVariants.{DeskLine, OutOfMemory}
+use Rattle.journal_folder.specs.declared.restart_fault.RestartFault.{RestartFault}
+use Rattle.journal_folder.specs.declared.restart_fault.RestartFault.TheVariants.{DeskLine, OutOfMemory}
 use Rattle.day_restart.specs.declared.desk_past.PlacedAgain.{PlacedAgain}
 use Rattle.day_restart.specs.Restored.{entries_of, entry_of, legs_in, legs_placed, placed_as, restored_desk, shares_in, up_to_most}
 

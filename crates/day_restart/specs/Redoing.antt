@@ -6,8 +6,8 @@ use Rattle.journal_words.specs.Deed.{Timed}
 use Rattle.session_core.specs.Calling.{broken}
 use Rattle.session_worker.specs.Keeping.{events_of}
 use Rattle.session_worker.specs.Restoring.{Redoes, RedoesLine, StartParts}
-use Rattle.day_restart.specs.declared.fault.RestartFault.{RestartFault}
-use Rattle.day_restart.specs.declared.fault.RestartFault.TheVariants.{DeskLine, OutOfMemory, VenueLine}
+use Rattle.journal_folder.specs.declared.restart_fault.RestartFault.{RestartFault}
+use Rattle.journal_folder.specs.declared.restart_fault.RestartFault.TheVariants.{DeskLine, OutOfMemory, VenueLine}
 use Rattle.day_restart.specs.Restored.{Past, deeds_in}
 
 -- whether a line is that of a leg which was taken, and how many of these are

@@ -9,12 +9,11 @@ ghost use Rattle.day_restart.specs.Files.{HasWords, desk_name};
 ghost use Rattle.day_restart.specs.Words.{desk_head, venue_head};
 
 use crate::day_journal::DayJournal;
-use crate::fault::RestartFault;
 use crate::gone::tell_gone;
 use crate::words::{desk_words, venue_words};
 use desk_config::{Day, Venue};
 use desk_words::{VenueName, shown};
-use journal_folder::{DayFolder, Durable, FolderFault, Found};
+use journal_folder::{DayFolder, Durable, FolderFault, Found, RestartFault};
 use journal_words::{DeskDeed, read_desk};
 use std::alloc::{AllocError, Global};
 use std::fs::{File, Files};

@@ -5,9 +5,9 @@ ghost use Rattle.share_ledger.specs.Entries.{sweep_shares};
 ghost use Rattle.day_restart.specs.Placing.{AddsPlaced, AllTakeMore, ArePlaced, IsDeskFault, IsLineFault, IsPlacing};
 ghost use Rattle.day_restart.specs.Placing.{PlacesLine, asks_for, parts_of};
 
-use crate::fault::RestartFault;
 use desk_words::VenueName;
 use exec_collector::{Accounts, Collector};
+use journal_folder::RestartFault;
 use journal_words::{DeskDeed, read_desk};
 use leg::{Legs, Sweep};
 use release_lock::{Asked, CallerSeat, Declined, LockedDesk, Run};

@@ -9,11 +9,11 @@ ghost use Rattle.day_restart.specs.Restored.{AllGoOn, IsNew, PlacesAgain};
 ghost use Rattle.day_restart.specs.Told.{IsToldOf, TellsDay, venue_rows};
 
 use crate::desk_past::{Placed, PlacedAgain, place_again};
-use crate::fault::RestartFault;
 use crate::told::{Restored, VenueRestored};
 use desk_words::VenueName;
 use dialect::Dialect;
 use exec_collector::{Accounts, Collector};
+use journal_folder::RestartFault;
 use release_lock::{CallerSeat, LockedDesk, Run};
 use session_worker::{RedoFault, Start};
 use std::alloc::{AllocError, Global};

@@ -12,6 +12,7 @@ ghost use Rattle.desk_venues.specs.Venues.{plans};
 ghost use Rattle.desk_day.specs.Opening.{new_starts};
 ghost use Rattle.desk_day.specs.Seats.{shared_parts};
 
+use change_count::Stop;
 use clock::UtcClock;
 use desk_config::Venue;
 use desk_floor::{
@@ -27,7 +28,7 @@ use kept_link::{Telling, Untold};
 use order_limits::OrderLimits;
 use readiness::Wakeup;
 use release_lock::{BlankDesk, CallerSeat, LockedDesk, OpenedDesk, ReleaseLock, Run, VenueDrain};
-use session_worker::{Start, Stop};
+use session_worker::Start;
 use std::alloc::{AllocError, Global};
 use std::collections::VecDeque;
 use std::fs::{File, Files};

@@ -16,8 +16,7 @@ ghost use Rattle.desk_day.specs.Opening.{new_starts};
 
 use crate::running::JournalAt;
 use day_restart::{
-    DayFiles, DayJournal, DayJournals, JournalNames, JournalRefused, Placed, RestartFault,
-    RestoredDay, VenuePast, restore_day,
+    DayFiles, DayJournal, DayJournals, JournalNames, Placed, RestoredDay, VenuePast, restore_day,
 };
 use desk_config::{Durable, Venue};
 use desk_day::{BegunDay, Past};
@@ -25,7 +24,7 @@ use desk_floor::{HaltMark, JournalWatch, Refs};
 use desk_venues::DayFault;
 use desk_words::{VenueName, shown};
 use exec_collector::Accounts;
-use journal_folder::FolderFault;
+use journal_folder::{FolderFault, JournalRefused, RestartFault};
 use release_lock::Run;
 use std::alloc::{AllocError, Global};
 use std::collections::VecDeque;

@@ -21,9 +21,6 @@
 #![tactic(auto)]
 
 mod going_on;
-mod limiting;
-mod lines;
-mod pages;
 mod running;
 
 pub use running::{DayOptions, JournalAt, run_day};

@@ -14,15 +14,13 @@ ghost use Rattle.desk_day.specs.Seats.{shared_parts};
 ghost use Rattle.desk_day.specs.Told.{AllSay, IsToldDay, IsToldFrom, IsToldKept, IsToldOver};
 
 use crate::going_on::{open_files, past_of, restored};
-use crate::limiting::day_limits;
-use crate::lines::{LineDoors, LineHall, close_lines, open_lines};
-use crate::pages::open_pages;
 use clock::Clock;
 use day_restart::{JournalNames, Restored};
 use desk_config::{Day, DeskConfig, Durable, TokenText};
 use desk_day::{
     BegunDay, DeskDay, Means, OpenDay, Past, add_taker, begin_day, close_day, open_day,
 };
+use desk_doors::{LineDoors, LineHall, close_lines, day_limits, open_lines, open_pages};
 use desk_floor::{Bells, Floor, Manner, Voice};
 use desk_lines::{LineServer, take_all_lines};
 use desk_serve::{Cast, Ended};

@@ -5,7 +5,7 @@ ghost use Rattle.desk_venues.specs.declared.day_fault.DayFault.TheVariants.{OutO
 ghost use Rattle.desk_venues.specs.Faults.{run_fault};
 
 use day_log::LogFault;
-use day_restart::JournalRefused;
+use journal_folder::JournalRefused;
 use session_worker::RunFault;
 use std::alloc::{AllocError, AllocFailed};
 use thiserror::Error;

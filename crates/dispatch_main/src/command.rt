@@ -10,7 +10,7 @@ use journal_command::journal_command;
 use live_command::live_command;
 use order_command::order_command;
 use replay_command::replay_command;
-use run_command::run_command;
+use run_file::run_command;
 use std::alloc::{AllocError, Global};
 use std::convert::AsStr;
 

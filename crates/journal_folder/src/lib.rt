@@ -33,6 +33,7 @@ mod head;
 pub mod laws;
 mod listed;
 mod reads;
+mod restart_fault;
 mod room;
 mod shown;
 
@@ -45,3 +46,4 @@ pub use found::{Found, read_journal};
 pub use head::{Head, head_line, read_head};
 pub use listed::{journal_path, list_journals};
 pub use reads::FolderReads;
+pub use restart_fault::{JournalRefused, RestartFault};

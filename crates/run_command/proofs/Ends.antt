@@ -9,12 +9,10 @@ use Rattle.desk_day.specs.Told.{IsToldDay, IsToldOver}
 use Rattle.desk_day.specs.declared.day.DeskDay.{DeskDay}
 use Rattle.json_lines.specs.declared.form.Form.{Form}
 use Rattle.run_command.specs.Ending.{end_text, EndsOpen, PrintsDay, PrintsWholeDay}
-use Rattle.command_line.specs.declared.input.InputFault.{InputFault}
-use Rattle.command_line.specs.declared.input.InputFault.TheVariants as input
-use Rattle.run_command.specs.Fault.{input_fault, IsOfCommandLine}
-use Rattle.run_command.specs.Running.{EndsRun, IfBeforeDay, IfOpen, IsOfDay}
-use Rattle.run_command.specs.declared.fault.CommandFault.{CommandFault}
-use Rattle.run_command.specs.declared.fault.CommandFault.TheVariants.{
+use Rattle.run_command.specs.Running.{EndsRun, IfBeforeDay, IsOfDay}
+use Rattle.run_file.specs.Fault.{IfOpen}
+use Rattle.run_file.specs.declared.fault.CommandFault.{CommandFault}
+use Rattle.run_file.specs.declared.fault.CommandFault.TheVariants.{
   CommandLine,
   NoName,
   BadPatience,
@@ -120,38 +118,6 @@ prints_whole config form day before after bytes told new taken closed booked set
   taken = taken;
   whole = whole_over config.venues.items day told closed booked settled;
 }
-
--- what can't be had of an input is nothing that a day leaves open
-pub of_input : (fault : InputFault) → IfOpen ⊥ (input_fault fault)
-of_input input.ReadFailed = tt
-of_input input.OutOfMemory = tt
-
--- neither is a fault of the command line
-pub of_words : (fault : CommandFault) → IsOfCommandLine fault → IfOpen ⊥ fault
-of_words (CommandLine error) it = tt
-of_words OutOfMemory it = tt
-of_words GivenUp it = it
-of_words Unbooked it = it
-of_words NoName it = absurd it
-of_words BadPatience it = absurd it
-of_words BadRefs it = absurd it
-of_words (NoFile name) it = absurd it
-of_words (NotText name) it = absurd it
-of_words (BadFile name fault) it = absurd it
-of_words (NoToken user file fault) it = absurd it
-of_words (SameToken user) it = absurd it
-of_words NoPage it = absurd it
-of_words (NoPassword venue file why) it = absurd it
-of_words NoLines it = absurd it
-of_words (NoLogs fault) it = absurd it
-of_words (NoJournal refused) it = absurd it
-of_words ReadFailed it = absurd it
-of_words WriteFailed it = absurd it
-of_words NoSocket it = absurd it
-of_words NoThread it = absurd it
-of_words MismatchQueue it = absurd it
-of_words MismatchShares it = absurd it
-of_words MismatchPlaced it = absurd it
 
 -- where a fault is nothing that a day leaves open, whatever is said of such holds of it
 none_open : (said : Type 0) (fault : CommandFault) → IfOpen ⊥ fault → IfOpen said fault

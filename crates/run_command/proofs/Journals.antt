@@ -4,7 +4,7 @@ use Rattle.std.specs.Prelude.{Option, option_map}
 use Rattle.desk_config.specs.declared.day.Day.{Day}
 use Rattle.desk_config.specs.declared.journal.Durable.{Durable}
 use Rattle.desk_config.specs.declared.journal.JournalTerms.{JournalTerms}
-use Rattle.run_command.specs.Folder.{journal_at}
+use Rattle.run_file.specs.Folder.{journal_at}
 
 none_of : {A B : Type 0} (part : A → B) (found : Option A) → option_map part found ≡ None → found ≡ None
 none_of part None none = refl

@@ -1,4 +1,3 @@
 mod Ends
 mod Journals
 mod Lines
-mod Having

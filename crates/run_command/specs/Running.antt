@@ -3,9 +3,9 @@ use Rattle.std.specs.Prelude.{◌≡◌, ℕ, List, Option, Result, Ok, Err}
 use Rattle.std.specs.Io.KnownBytes.{Keeps}
 use Rattle.command_line.specs.ExitStatus.{exit_status}
 use Rattle.run_command.specs.Ending.{EndsOpen, EndsWell}
-use Rattle.run_command.specs.Fault.{fault_status}
-use Rattle.run_command.specs.declared.fault.CommandFault.{CommandFault}
-use Rattle.run_command.specs.declared.fault.CommandFault.TheVariants.{
+use Rattle.run_file.specs.Fault.{fault_status, IfOpen}
+use Rattle.run_file.specs.declared.fault.CommandFault.{CommandFault}
+use Rattle.run_file.specs.declared.fault.CommandFault.TheVariants.{
   CommandLine,
   NoName,
   BadPatience,
@@ -16,8 +16,6 @@ use Rattle.run_command.specs.declared.fault.CommandFault.TheVariants.{
   NoToken,
   SameToken,
   NoPassword,
-  GivenUp,
-  Unbooked,
 }
 
 -- what is said of a fault of the words, of the file or of a password, which comes before anything is dialled or printed
@@ -37,13 +35,6 @@ IfBeforeDay said other = Unit {0}
 -- a fault of a day that was begun
 abbrev pub IsOfDay : CommandFault → Type 0
 IsOfDay fault = IfBeforeDay ⊥ fault
-
--- what is said of a fault that tells what an audited day leaves open: a session that was given up, a leg in doubt, or a
--- report that the book didn't take
-abbrev pub IfOpen : Type 0 → CommandFault → Type 0
-IfOpen said GivenUp = said
-IfOpen said Unbooked = said
-IfOpen said other = Unit {0}
 
 -- how a run ends, by the bytes that the output held before and holds after: a fault of the words, of the file or of a
 -- password prints nothing; without a fault the file is told to be a day's, or its day was audited and is printed; and

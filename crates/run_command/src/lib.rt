@@ -11,7 +11,6 @@
 //!   is over, no contract says.
 //! - What is printed behind a day is exactly the stated text of what became of it (`day_text`, or `json_text` with
 //!   `--json`).
-//! - Out of memory while the file is read is never told as a fault of the file (`file_fault`, private).
 //! - The folder of the logs is that which the file names, from the file's own folder on (`log_folder`, private). So are
 //!   that of the Unix socket (`socket_path`, private) and that of the journals, with the day's date where the file has
 //!   `%Y-%m-%d` (`journal_folder`, private). Which day it is no contract says.
@@ -23,24 +22,13 @@
 ghost use Rattle.std.specs.Prelude.{◌≡◌, None, length, option_map, string_bytes, IfErr, IfOk, OnOk};
 ghost use Rattle.desk_config.specs.Apart.{AreVenues};
 ghost use Rattle.run_command.specs.Ending.{end_text, PrintsDay, PrintsWholeDay};
-ghost use Rattle.run_command.specs.Folder.{folder_of, journal_at, journal_folder};
-ghost use Rattle.run_command.specs.Running.{EndsRun, ExitsSo, IfOpen, IsOfDay};
+ghost use Rattle.run_command.specs.Running.{EndsRun, ExitsSo, IsOfDay};
+ghost use Rattle.run_file.specs.Fault.{IfOpen};
+ghost use Rattle.run_file.specs.Folder.{folder_of, journal_at, journal_folder};
 
 mod end_json;
-mod fault;
-mod file;
-mod folder;
-mod options;
-mod passwords;
 mod text;
-mod today;
-mod tokens;
 
-use crate::file::read_file;
-use crate::folder::folder_of;
-use crate::passwords::read_passwords;
-use crate::today::today;
-use crate::tokens::read_tokens;
 use command_line::{finish, print};
 use config_check::check_text;
 use desk_config::{Day, DeskConfig};
@@ -49,9 +37,10 @@ use desk_run::{DayOptions, JournalAt, run_day};
 use desk_talk::DeskInput;
 use dressed_link::Secret;
 pub use end_json::json_text;
-pub use fault::CommandFault;
 use json_lines::Form;
-pub use options::{Options, read_options, run_command};
+use run_file::{
+    CommandFault, folder_of, read_file, read_options, read_passwords, read_tokens, today,
+};
 use std::alloc::{AllocError, Global};
 use std::convert::AsStr;
 use std::fs::{File, Files};

@@ -4,8 +4,8 @@ use Rattle.std.specs.Prelude.{Option, Result}
 use Rattle.command_line.specs.ExitStatus.{exit_status}
 use Rattle.day_log.specs.declared.fault.LogFault.{LogFault}
 use Rattle.day_log.specs.declared.fault.LogFault.TheVariants as log
-use Rattle.day_restart.specs.declared.fault.RestartFault.{RestartFault}
-use Rattle.day_restart.specs.declared.fault.RestartFault.TheVariants as journal
+use Rattle.journal_folder.specs.declared.restart_fault.RestartFault.{RestartFault}
+use Rattle.journal_folder.specs.declared.restart_fault.RestartFault.TheVariants as journal
 use Rattle.journal_folder.specs.declared.fault.FolderFault.{FolderFault}
 use Rattle.journal_folder.specs.declared.fault.FolderFault.TheVariants as folder
 use Rattle.secret_file.specs.declared.fault.SecretFault.{SecretFault}
@@ -14,10 +14,10 @@ use Rattle.desk_config.specs.declared.config.DeskConfig.{DeskConfig}
 use Rattle.desk_theorem.proofs.DayOver.{the_desk_theorem_over_lives}
 use Rattle.day_sweeps.specs.Paid.{parts_of}
 use Rattle.run_command.specs.Ending.{EndsOpen, EndsWell, PrintsDay, PrintsWholeDay}
-use Rattle.run_command.specs.Fault.{fault_status, log_status, folder_status, journal_status, secret_status}
-use Rattle.run_command.specs.Running.{EndsRun, ExitsSo, IfOpen}
-use Rattle.run_command.specs.declared.fault.CommandFault.{CommandFault}
-use Rattle.run_command.specs.declared.fault.CommandFault.TheVariants.{
+use Rattle.run_command.specs.Running.{EndsRun, ExitsSo}
+use Rattle.run_file.specs.Fault.{fault_status, log_status, folder_status, journal_status, secret_status, IfOpen}
+use Rattle.run_file.specs.declared.fault.CommandFault.{CommandFault}
+use Rattle.run_file.specs.declared.fault.CommandFault.TheVariants.{
   CommandLine,
   NoName,
   BadPatience,

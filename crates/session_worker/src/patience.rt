@@ -2,7 +2,7 @@
 
 ghost use Rattle.std.specs.Prelude.{◌≡◌, ◌-◌, ◌≤◌, ◌↔◌, ℕ, None, Some, IsTrue};
 
-use crate::Stop;
+use change_count::Stop;
 
 /// For how many milliseconds a worker that was told to stop tries to close its session in order.
 const PATIENCE: u64 = 10_000;

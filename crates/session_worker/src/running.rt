@@ -3,7 +3,8 @@
 ghost use Rattle.std.specs.Prelude.{IfOk};
 ghost use Rattle.session_worker.specs.Ends.{Runs, AllRan};
 
-use crate::{RunFault, Stop, Worker, WorkerEnd};
+use crate::{RunFault, Worker, WorkerEnd};
+use change_count::Stop;
 use clock::Clock;
 use dialect::Dialect;
 use exec_collector::{Accounts, Collector};

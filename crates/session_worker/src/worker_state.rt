@@ -16,12 +16,13 @@ ghost use Rattle.session_worker.specs.Withdrawing.{Withdraws, WithdrawsAll};
 ghost use Rattle.session_worker.specs.Ends.{is_over, IsReason, last_calls};
 ghost use Rattle.session_worker.specs.Taking.{TakesNext};
 
+use crate::EndReason;
 use crate::gates::{lower, shut_gate};
 use crate::patience::Patience;
 use crate::session_io::SessionIo;
 use crate::takings::Takings;
 use crate::withdrawal_counts::WithdrawalCounts;
-use crate::{EndReason, Stop};
+use change_count::Stop;
 use clock::Clock;
 use dialect::{Dialect, Note};
 use exec_collector::{Accounts, Collector, WorkerSeat};

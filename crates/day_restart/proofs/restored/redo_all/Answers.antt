@@ -4,7 +4,7 @@ use Rattle.std.specs.Option.{option_map}
 use Rattle.std.proofs.lemmas.List.{length-map}
 use Rattle.std.proofs.lemmas.Option.{slice_get-get_or, slice_get-map, slice_get_read}
 use Rattle.day_restart.specs.Redoing.{AllDone, AllRedoTo, HasNext, IsVenuesFault}
-use Rattle.day_restart.specs.declared.fault.RestartFault.{RestartFault}
+use Rattle.journal_folder.specs.declared.restart_fault.RestartFault.{RestartFault}
 use Rattle.day_restart.specs.Restored.{Past}
 use Rattle.day_restart.proofs.Faults.{among}
 use Rattle.day_restart.proofs.Places.{all_redone, fewer_left, left, next_more, next_within, next_within_at, none_redone, one_redone, one_there, same_counts}

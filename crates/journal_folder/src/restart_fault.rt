@@ -1,10 +1,10 @@
 //! Why a day can't go on from its journals.
 
 ghost use Rattle.std.specs.Prelude.{◌≡◌};
-ghost use Rattle.day_restart.specs.declared.fault.RestartFault.TheVariants.{OutOfMemory};
+ghost use Rattle.journal_folder.specs.declared.restart_fault.RestartFault.TheVariants.{OutOfMemory};
 
+use crate::fault::FolderFault;
 use desk_words::{Printable, VenueName};
-use journal_folder::FolderFault;
 use std::alloc::{AllocError, AllocFailed};
 use thiserror::Error;
 

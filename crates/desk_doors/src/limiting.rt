@@ -1,7 +1,7 @@
 //! The limits of a day.
 
 ghost use Rattle.std.specs.Prelude.{◌≡◌, map, IfOk};
-ghost use Rattle.desk_run.specs.Limiting.{day_limits};
+ghost use Rattle.desk_doors.specs.Limiting.{day_limits};
 
 use desk_config::{DeskConfig, LimitsTable, Venue};
 use leg::Symbol;
@@ -31,7 +31,7 @@ fn legs_limits(alloc: Global, venues: &[Venue]) -> Result<Vec<LegLimits>, AllocE
 }
 
 /// What the orders of a day may have, by its file. The only refusal is out of memory.
-pub(crate) fn day_limits(alloc: Global, config: &DeskConfig) -> Result<OrderLimits, AllocError>
+pub fn day_limits(alloc: Global, config: &DeskConfig) -> Result<OrderLimits, AllocError>
     ensures { IfOk result (λ limits. limits ≡ day_limits config.now) }
 {
     let symbols = copied(alloc, config.symbols.as_slice())?;

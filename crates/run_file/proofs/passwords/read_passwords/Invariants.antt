@@ -1,6 +1,6 @@
 use Rattle.std.proofs.Common.{◌≡◌, length, take}
-use Rattle.run_command.specs.Passwords.{HaveTheirPasswords}
-use Rattle.run_command.proofs.passwords.read_passwords.Given as goal
+use Rattle.run_file.specs.Passwords.{HaveTheirPasswords}
+use Rattle.run_file.proofs.passwords.read_passwords.Given as goal
 
 abbrev pub invariant-loop-venue : goal.invariant-loop-venue
 invariant-loop-venue g l = record {

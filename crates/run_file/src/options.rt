@@ -1,5 +1,5 @@
 //! The options of `dispatch run`.
-ghost use Rattle.run_command.specs.Running.{IfOpen};
+ghost use Rattle.run_file.specs.Fault.{IfOpen};
 ghost use Rattle.std.specs.Prelude.{◌≡◌, IfErr};
 
 use crate::fault::CommandFault;

@@ -3,8 +3,7 @@
 ghost use Rattle.std.specs.Prelude.{◌↔◌, ℕ, List, Ok, IsTrue, IfErr, IfOk};
 ghost use Rattle.desk_config.specs.Apart.{AreVenues};
 ghost use Rattle.desk_config.specs.Config.{AnswersText};
-ghost use Rattle.run_command.specs.Fault.{IsToldSo, WantsMemory};
-ghost use Rattle.run_command.specs.Running.{IfOpen};
+ghost use Rattle.run_file.specs.Fault.{IfOpen, IsToldSo, WantsMemory};
 
 use crate::fault::CommandFault;
 use command_line::read_up_to;

@@ -1,7 +1,7 @@
 //! Where the folders of a day's logs and of its journals are.
 
 ghost use Rattle.std.specs.Prelude.{◌≡◌, IfOk, string_bytes};
-ghost use Rattle.run_command.specs.Folder.{folder_of};
+ghost use Rattle.run_file.specs.Folder.{folder_of};
 
 use std::alloc::{AllocError, Global};
 use std::path::Path;

@@ -3,7 +3,7 @@ use Rattle.std.proofs.Common.{◌≡◌, ℕ, ◌+◌, ◌<◌, List, [], ◌∷
 use Rattle.std.specs.Prelude.{Option}
 use Rattle.std.proofs.lemmas.List.{take_more}
 use Rattle.desk_config.specs.declared.venue.Venue.{Venue}
-use Rattle.run_command.specs.Passwords.{HasItsPassword, HaveTheirPasswords}
+use Rattle.run_file.specs.Passwords.{HasItsPassword, HaveTheirPasswords}
 
 have_more : (venues : List Venue) (secrets : List (Option (List ℕ))) (venue : Venue) (secret : Option (List ℕ))
     → HaveTheirPasswords venues secrets → HasItsPassword venue secret

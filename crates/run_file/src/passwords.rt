@@ -1,9 +1,8 @@
 //! The passwords of a desk's venues.
 
 ghost use Rattle.std.specs.Prelude.{◌≡◌, [], ◌∷◌, ◌++◌, length, IfErr, IfOk, OnOk};
-ghost use Rattle.run_command.specs.Fault.{IsToldSo};
-ghost use Rattle.run_command.specs.Passwords.{HasItsPassword, HaveTheirPasswords};
-ghost use Rattle.run_command.specs.Running.{IfOpen};
+ghost use Rattle.run_file.specs.Fault.{IfOpen, IsToldSo};
+ghost use Rattle.run_file.specs.Passwords.{HasItsPassword, HaveTheirPasswords};
 
 use crate::fault::{CommandFault, lacks_memory};
 use crate::folder::folder_of;

@@ -28,12 +28,12 @@ impl Stop {
     }
 
     /// Whether the workers were told.
-    pub(crate) fn is_told(&self) -> bool {
+    pub fn is_told(&self) -> bool {
         self.closes.load(Ordering::SeqCst)
     }
 
     /// Whether they were told twice.
-    pub(crate) fn is_told_twice(&self) -> bool {
+    pub fn is_told_twice(&self) -> bool {
         self.abandons.load(Ordering::SeqCst)
     }
 }

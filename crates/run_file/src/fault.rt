@@ -1,17 +1,16 @@
 //! Why `dispatch run` failed.
 ghost use Rattle.std.specs.Prelude.{◌≡◌, ◌↔◌, IsTrue};
-ghost use Rattle.run_command.specs.declared.fault.CommandFault.TheVariants.{OutOfMemory, WriteFailed};
-ghost use Rattle.run_command.specs.Fault.{IsOfCommandLine, fault_status, folder_status, journal_status, log_status};
-ghost use Rattle.run_command.specs.Fault.{LacksMemory, day_fault, input_fault, secret_status, talk_fault};
+ghost use Rattle.run_file.specs.declared.fault.CommandFault.TheVariants.{OutOfMemory, WriteFailed};
+ghost use Rattle.run_file.specs.Fault.{IsOfCommandLine, fault_status, folder_status, journal_status, log_status};
+ghost use Rattle.run_file.specs.Fault.{LacksMemory, day_fault, input_fault, secret_status, talk_fault};
 
 use clap::error::ErrorKind;
 use command_line::{Fault, InputFault};
 use day_log::LogFault;
-use day_restart::{JournalRefused, RestartFault};
 use desk_config::ConfigFault;
 use desk_floor::TalkFault;
 use desk_venues::DayFault;
-use journal_folder::FolderFault;
+use journal_folder::{FolderFault, JournalRefused, RestartFault};
 use secret_file::SecretFault;
 use std::alloc::AllocError;
 use std::io;

@@ -6,8 +6,8 @@ use Rattle.desk_config.specs.declared.fault.ConfigFault.{ConfigFault}
 use Rattle.desk_config.specs.declared.fault.ConfigFault.TheVariants as config
 use Rattle.day_log.specs.declared.fault.LogFault.{LogFault}
 use Rattle.day_log.specs.declared.fault.LogFault.TheVariants as log
-use Rattle.day_restart.specs.declared.fault.RestartFault.{RestartFault}
-use Rattle.day_restart.specs.declared.fault.RestartFault.TheVariants as journal
+use Rattle.journal_folder.specs.declared.restart_fault.RestartFault.{RestartFault}
+use Rattle.journal_folder.specs.declared.restart_fault.RestartFault.TheVariants as journal
 use Rattle.journal_folder.specs.declared.fault.FolderFault.{FolderFault}
 use Rattle.journal_folder.specs.declared.fault.FolderFault.TheVariants as folder
 use Rattle.secret_file.specs.declared.fault.SecretFault.{SecretFault}
@@ -17,8 +17,8 @@ use Rattle.desk_venues.specs.declared.day_fault.DayFault.TheVariants as day
 use Rattle.desk_floor.specs.declared.talk_fault.TalkFault.{TalkFault}
 use Rattle.desk_floor.specs.declared.talk_fault.TalkFault.TheVariants as talk
 use Rattle.toml.specs.Errors.{IsMemory}
-use Rattle.run_command.specs.declared.fault.CommandFault.{CommandFault}
-use Rattle.run_command.specs.declared.fault.CommandFault.TheVariants.{
+use Rattle.run_file.specs.declared.fault.CommandFault.{CommandFault}
+use Rattle.run_file.specs.declared.fault.CommandFault.TheVariants.{
   CommandLine,
   NoName,
   BadPatience,
@@ -155,3 +155,10 @@ IsToldSo (BadFile name fault) = ¬ WantsMemory fault
 IsToldSo (NoToken user file fault) = ¬ LacksMemory fault
 IsToldSo (NoPassword venue file why) = ¬ LacksMemory why
 IsToldSo other = Unit {0}
+
+-- what is said of a fault that tells what an audited day leaves open: a session that was given up, a leg in doubt, or a
+-- report that the book didn't take
+abbrev pub IfOpen : Type 0 → CommandFault → Type 0
+IfOpen said GivenUp = said
+IfOpen said Unbooked = said
+IfOpen said other = Unit {0}

@@ -1,8 +1,7 @@
 //! The tokens of a desk's users.
 
 ghost use Rattle.std.specs.Prelude.{◌≡◌, ◌+◌, length, IfErr, IfOk, OnOk};
-ghost use Rattle.run_command.specs.Fault.{IsToldSo};
-ghost use Rattle.run_command.specs.Running.{IfOpen};
+ghost use Rattle.run_file.specs.Fault.{IfOpen, IsToldSo};
 
 use crate::fault::{CommandFault, lacks_memory};
 use crate::folder::folder_of;

@@ -1,7 +1,7 @@
 use Rattle.std.proofs.Common.{◌∙◌, ◌+◌, length, ap}
 use Rattle.std.proofs.lemmas.List.{length_push}
-use Rattle.run_command.proofs.Having.{one_more_has}
-use Rattle.run_command.proofs.passwords.read_passwords.Goals as goal
+use Rattle.run_file.proofs.Having.{one_more_has}
+use Rattle.run_file.proofs.passwords.read_passwords.Goals as goal
 
 pub loop-venue-preserved : goal.loop-venue-preserved
 loop-venue-preserved g c =
