@@ -1,5 +1,0 @@
-//! Tests of whole days over loopback.
-#![tactic(auto)]
-
-#[cfg(test)]
-mod days;
