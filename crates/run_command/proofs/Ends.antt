@@ -1,11 +1,11 @@
 -- Faults of the words, of the file and of passwords, and those of a day.
-use Rattle.std.proofs.Common.{◌≡◌, ◌⊎◌, inr, ℕ, List, [], false, None, Ok, Err, subst}
-use Rattle.std.specs.Prelude.{Option, Result, IfErr, OnOk}
+use Rattle.std.proofs.Common.{◌≡◌, ◌⊎◌, inr, ℕ, List, [], false, true, None, Ok, Err, subst}
+use Rattle.std.specs.Prelude.{Option, Result, is_some, IfErr, OnOk}
 use Rattle.std.specs.Io.KnownBytes.{Appends, Keeps}
 use Rattle.desk_config.specs.Config.{AnswersText}
 use Rattle.desk_config.specs.declared.config.DeskConfig.{DeskConfig}
 use Rattle.desk_day.proofs.Whole.{whole_over}
-use Rattle.desk_day.specs.Told.{IsToldDay, IsToldOver}
+use Rattle.desk_day.specs.Told.{IsToldDay, IsToldKept, IsToldOver}
 use Rattle.desk_day.specs.declared.day.DeskDay.{DeskDay}
 use Rattle.json_lines.specs.declared.form.Form.{Form}
 use Rattle.run_command.specs.Ending.{end_text, EndsOpen, PrintsDay, PrintsWholeDay}
@@ -96,11 +96,13 @@ of_day said Unbooked it = tt
 -- the text of a day is printed
 pub prints_day : (config : DeskConfig) (form : Form) (day : DeskDay) (before after : Option (List ℕ)) (bytes : List ℕ)
     → IsToldOver config.venues.items day → (config.journal ≡ None → IsToldDay config.venues.items day)
-    → bytes ≡ end_text form day → Appends before after bytes → PrintsDay config after
-prints_day config form day before after bytes told new is printed = record {
+    → (is_some config.journal ≡ true → IsToldKept config.venues.items day) → bytes ≡ end_text form day
+    → Appends before after bytes → PrintsDay config after
+prints_day config form day before after bytes told new kept is printed = record {
   day = day;
   told = told;
   new = new;
+  kept = kept;
   form = form;
   held = before;
   printed = subst (λ (text : List ℕ). Appends before after text) is printed;
@@ -109,12 +111,13 @@ prints_day config form day before after bytes told new is printed = record {
 -- that of a day that ended well
 pub prints_whole : (config : DeskConfig) (form : Form) (day : DeskDay) (before after : Option (List ℕ))
     (bytes : List ℕ) → IsToldOver config.venues.items day
-    → (config.journal ≡ None → IsToldDay config.venues.items day) → day.broken_off ≡ None → day.is_given_up ≡ false
-    → day.unbooked.items ≡ [] → day.doubts.items ≡ [] → bytes ≡ end_text form day → Appends before after bytes
-    → PrintsWholeDay config after
+    → (config.journal ≡ None → IsToldDay config.venues.items day)
+    → (is_some config.journal ≡ true → IsToldKept config.venues.items day) → day.broken_off ≡ None
+    → day.is_given_up ≡ false → day.unbooked.items ≡ [] → day.doubts.items ≡ [] → bytes ≡ end_text form day
+    → Appends before after bytes → PrintsWholeDay config after
 unfolding prints_day
-prints_whole config form day before after bytes told new taken closed booked settled is printed = record {
-  prints = prints_day config form day before after bytes told new is printed;
+prints_whole config form day before after bytes told new kept taken closed booked settled is printed = record {
+  prints = prints_day config form day before after bytes told new kept is printed;
   taken = taken;
   whole = whole_over config.venues.items day told closed booked settled;
 }

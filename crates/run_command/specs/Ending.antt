@@ -1,9 +1,9 @@
 -- What `dispatch run` prints last, where it ends well.
-use Rattle.std.specs.Prelude.{◌≡◌, ◌⊎◌, ℕ, List, length, Option, None, Ok}
+use Rattle.std.specs.Prelude.{◌≡◌, ◌⊎◌, ℕ, true, List, length, Option, None, is_some, Ok}
 use Rattle.std.specs.Io.KnownBytes.{Appends}
 use Rattle.desk_config.specs.Config.{AnswersText}
 use Rattle.desk_config.specs.declared.config.DeskConfig.{DeskConfig}
-use Rattle.desk_day.specs.Told.{IsToldDay, IsToldOver}
+use Rattle.desk_day.specs.Told.{IsToldDay, IsToldKept, IsToldOver}
 use Rattle.desk_day.specs.Whole.{IsWhole}
 use Rattle.desk_day.specs.declared.day.DeskDay.{DeskDay}
 use Rattle.json_lines.specs.declared.form.Form.{Form}
@@ -18,11 +18,13 @@ end_text Words day = day_text day
 end_text Json day = json_text day
 
 -- a day of this configuration, which may have had lives before if it keeps a journal, was audited and is told with the
--- rest of what its book and its workers left; and its text is printed behind what the output held then
+-- rest of what its book and its workers left; where the configuration asks for a journal each worker tells one; and
+-- its text is printed behind what the output held then
 pub record PrintsDay (config : DeskConfig) (after : Option (List ℕ)) : Type 0 where
   pub day : DeskDay
   pub told : IsToldOver config.venues.items day
   pub new : config.journal ≡ None → IsToldDay config.venues.items day
+  pub kept : is_some config.journal ≡ true → IsToldKept config.venues.items day
   pub form : Form
   pub held : Option (List ℕ)
   pub printed : Appends held after (end_text form day)

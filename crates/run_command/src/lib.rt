@@ -4,11 +4,11 @@
 //! - The exit status is 0, or that of the fault (`run_run`). A fault of the words, of the file or of a password prints
 //!   nothing. At 0 a file's bytes spell a configuration, and either what it says is printed (`check_text`), or a day of
 //!   this configuration was audited and is told: one that began new where no journal is kept (`IsToldDay`), and one
-//!   that may have had lives before where one is (`IsToldOver`). Of that day no worker gave its session up or left a
-//!   leg in doubt, and of no venue is a report on the audited book's list of what it didn't take (`IsWhole`). The day's
-//!   text is printed last (`EndsWell`). A day that leaves such things open is audited, told and printed too
-//!   (`EndsOpen`). Which bytes a file gives, that a fault of the input is told, and what the output holds when the day
-//!   is over, no contract says.
+//!   that may have had lives before where one is (`IsToldOver`). Where the file asks for a journal, each worker tells
+//!   one (`IsToldKept`). Of that day no worker gave its session up or left a leg in doubt, and of no venue is a report
+//!   on the audited book's list of what it didn't take (`IsWhole`). The day's text is printed last (`EndsWell`). A day
+//!   that leaves such things open is audited, told and printed too (`EndsOpen`). Which bytes a file gives, that a fault
+//!   of the input is told, and what the output holds when the day is over, no contract says.
 //! - What is printed behind a day is exactly the stated text of what became of it (`day_text`, or `json_text` with
 //!   `--json`).
 //! - The folder of the logs is that which the file names, from the file's own folder on (`log_folder`, private). So are
@@ -19,7 +19,7 @@
 //! See `docs/run.md`.
 #![tactic(auto)]
 
-ghost use Rattle.std.specs.Prelude.{◌≡◌, None, length, option_map, string_bytes, IfErr, IfOk, OnOk};
+ghost use Rattle.std.specs.Prelude.{◌≡◌, None, true, length, is_some, option_map, string_bytes, IfErr, IfOk, OnOk};
 ghost use Rattle.desk_config.specs.Apart.{AreVenues};
 ghost use Rattle.run_command.specs.Ending.{end_text, PrintsDay, PrintsWholeDay};
 ghost use Rattle.run_command.specs.Running.{EndsRun, ExitsSo, IsOfDay};
@@ -212,6 +212,7 @@ where
     requires venues { AreVenues config.now.venues.items }
     requires secrets { length secrets.items ≡ length config.now.venues.items }
     requires journal { config.now.journal ≡ None → options.journal ≡ None }
+    requires kept { is_some config.now.journal ≡ true → is_some options.journal ≡ true }
     ensures ok { OnOk result (PrintsWholeDay config.now (W.contents out.new)) }
     ensures left { IfErr result (IfOpen (PrintsDay config.now (W.contents out.new))) }
     ensures err { IfErr result IsOfDay }

@@ -18,17 +18,20 @@ returns-clause-ok g c =
     elim c.if-day.branch [ then-day w ↦ search rules | else-day w ↦ search rules ] in
     let settled = nil_from_length c.in_ok-day.day.doubts.items (omega (arith, held, none)) in
     prints_whole c.args.config.now c.args.options.form c.in_ok-day.day _ _ _ c.in_ok-day.ensures.day
-    (λ none. c.in_ok-day.ensures.new (c.requires.journal none)) taken closed booked settled
+    (λ none. c.in_ok-day.ensures.new (c.requires.journal none))
+    (λ some. c.in_ok-day.ensures.kept (c.requires.kept some)) taken closed booked settled
     (c.deref.ensures.value ∙ c.in_ok-end_text.ensures) c.in_ok-print.ensures.ok
 
 pub returns-in-None-clause-left : goal.returns-in-None-clause-left
 returns-in-None-clause-left g c =
     prints_day c.args.config.now c.args.options.form c.in_ok-day.day _ _ _ c.in_ok-day.ensures.day
-    (λ none. c.in_ok-day.ensures.new (c.requires.journal none)) (c.deref.ensures.value ∙ c.in_ok-end_text.ensures)
+    (λ none. c.in_ok-day.ensures.new (c.requires.journal none))
+    (λ some. c.in_ok-day.ensures.kept (c.requires.kept some)) (c.deref.ensures.value ∙ c.in_ok-end_text.ensures)
     c.in_ok-print.ensures.ok
 
 pub returns-in-None-2-clause-left : goal.returns-in-None-2-clause-left
 returns-in-None-2-clause-left g c =
     prints_day c.args.config.now c.args.options.form c.in_ok-day.day _ _ _ c.in_ok-day.ensures.day
-    (λ none. c.in_ok-day.ensures.new (c.requires.journal none)) (c.deref.ensures.value ∙ c.in_ok-end_text.ensures)
+    (λ none. c.in_ok-day.ensures.new (c.requires.journal none))
+    (λ some. c.in_ok-day.ensures.kept (c.requires.kept some)) (c.deref.ensures.value ∙ c.in_ok-end_text.ensures)
     c.in_ok-print.ensures.ok
