@@ -21,8 +21,8 @@
 //!   the name at its venue's place, where what earlier looks found is an index of that day (`IsExecutions`, for
 //!   `reports`).
 //! - Each look is at some book or desk: which moment's, and that two looks are at the same one, isn't said. Nothing is
-//!   known of the counts and states that workers tell, of the shares placed, or of whether a page says that the day is
-//!   closing.
+//!   known of the counts and states that workers tell, of the shares placed, of what the process uses, or of whether a
+//!   page says that the day is closing.
 //! - A client that has the day closed sets the flag of this very day, behind which no sweep is taken (`closes`, the
 //!   meaning of `close` of `desk_http`).
 //! - What a request may ask, and the texts of the answers, are said by `desk_http`. That the events are those of the

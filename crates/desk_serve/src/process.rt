@@ -21,9 +21,7 @@ const MAX_LINE: usize = 1_024;
 
 /// What the process uses by that file, if it was opened.
 pub(crate) fn process_use(file: &Option<File>) -> Option<ProcessUse> {
-    let Some(file) = file else {
-        return None;
-    };
+    let file = file.as_ref()?;
     let mut line = [0; MAX_LINE];
     let length = file.read_at(&mut line, 0).ok()?;
     use_in(line.get(..length)?)
