@@ -4,20 +4,23 @@ top=dispatch_main
 shipped=$here/shipped/dispatch.gz
 made_of=$here/shipped/made_of
 
-# The crates that the program is made of, lowest first. A line of crates.txt is a crate and what it uses, and stands
-# behind the lines of these.
+# The crates that the program is made of, in the order of crates.txt, whose lines each name a crate and what it uses.
 crates_of_program() {
     awk -F '[: ]+' -v top="$top" '
         { lines[NR] = $0 }
         END {
             wanted[top]
-            for (at = NR; at; at--) {
-                count = split(lines[at], words)
-                if (count && words[1] in wanted) {
-                    crates[at] = words[1]
-                    for (i = 2; i <= count; i++) wanted[words[i]]
+            do {
+                found = 0
+                for (at = NR; at; at--) {
+                    count = split(lines[at], words)
+                    if (count && words[1] in wanted && !(at in crates)) {
+                        crates[at] = words[1]
+                        for (i = 2; i <= count; i++) wanted[words[i]]
+                        found = 1
+                    }
                 }
-            }
+            } while (found)
             for (at = 1; at <= NR; at++) if (at in crates) print crates[at]
         }' "$here/crates.txt"
 }
