@@ -1,5 +1,4 @@
-//! A folder of a day's journals: files for the desk and for each session, locked against a second program; and why a day
-//! can't go on from them.
+//! A folder of a day's journals: files for the desk and for each session, locked against a second program.
 //!
 //! Promises:
 //! - A `FileTape` is a tape (`Tape` of `journal_tape`) by the record of its calls. That a file does what its calls say

@@ -3,7 +3,6 @@
 //!
 //! Promises:
 //! - Out of memory while the file is read is never told as a fault of the file (`file_fault`, private).
-//! - Each fault has its status (`fault_status`), and each venue of a file that has a password has it (`read_passwords`).
 //!
 //! See `docs/run.md`.
 #![tactic(auto)]
