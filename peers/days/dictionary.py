@@ -19,10 +19,12 @@ FIELDS = {
     44: ("Price", "PRICE"),
     45: ("RefSeqNum", "SEQNUM"),
     49: ("SenderCompID", "STRING"),
+    50: ("SenderSubID", "STRING"),
     52: ("SendingTime", "UTCTIMESTAMP"),
     54: ("Side", "CHAR"),
     55: ("Symbol", "STRING"),
     56: ("TargetCompID", "STRING"),
+    57: ("TargetSubID", "STRING"),
     58: ("Text", "STRING"),
     59: ("TimeInForce", "CHAR"),
     60: ("TransactTime", "UTCTIMESTAMP"),
@@ -38,6 +40,8 @@ FIELDS = {
     371: ("RefTagID", "INT"),
     372: ("RefMsgType", "STRING"),
     373: ("SessionRejectReason", "INT"),
+    553: ("Username", "STRING"),
+    554: ("Password", "STRING"),
     789: ("NextExpectedMsgSeqNum", "SEQNUM"),
 }
 
@@ -61,18 +65,37 @@ ORDER = (11, 38, 40, 44, 54, 55, 59, 60)
 
 @dataclass(frozen=True)
 class Own:
-    """A field that an order has to have besides, with the one value that is taken."""
+    """A field that a message has to have besides, with the one value that is taken."""
 
     tag: int
     value: str
+
+
+@dataclass(frozen=True)
+class Needs:
+    """What an exchange wants besides what every order, header and Logon has."""
+
+    order: tuple
+    header: tuple = ()
+    logon: tuple = ()
+    # Whether an order may have SymbolSfx (65).
+    has_suffix: bool = False
+
+    def values(self):
+        """The values that each field may have."""
+        return VALUES | {field.tag: (field.value,) for field in (*self.order, *self.header, *self.logon)}
+
+
+def tags_of(fields):
+    return tuple(field.tag for field in fields)
 
 
 def name_of(tag):
     return FIELDS[tag][0] if tag in FIELDS else f"Field{tag}"
 
 
-def rows(needed, allowed):
-    for tags, required in ((needed, "Y"), (allowed, "N")):
+def rows(needed, allowed, yes="Y"):
+    for tags, required in ((needed, yes), (allowed, "N")):
         yield from (f'<field name="{name_of(tag)}" required="{required}"/>' for tag in tags)
 
 
@@ -82,8 +105,7 @@ def message_rows(name, type, category, needed, allowed):
     yield "</message>"
 
 
-def field_rows(own):
-    values = VALUES | {field.tag: (field.value,) for field in own}
+def field_rows(values):
     for tag in sorted(FIELDS.keys() | values.keys()):
         type = FIELDS[tag][1] if tag in FIELDS else "STRING"
         yield f'<field number="{tag}" name="{name_of(tag)}" type="{type}">'
@@ -91,13 +113,17 @@ def field_rows(own):
         yield "</field>"
 
 
-def dictionary_of(own, has_suffix):
-    """The dictionary in which an order has to have these fields of its own; and may have SymbolSfx (65), or may not."""
-    lines = ['<fix type="FIX" major="4" minor="4">', "<header>", *rows(*HEADER), "</header>", "<messages>"]
+def dictionary_of(needs):
+    """The dictionary of an exchange that needs this."""
+    needed, allowed = HEADER
+    # QuickFIX takes a field of the header for required by this word alone
+    header = rows((*needed, *tags_of(needs.header)), allowed, "true")
+    lines = ['<fix type="FIX" major="4" minor="4">', "<header>", *header, "</header>", "<messages>"]
     for (name, type), (needed, allowed) in MESSAGES.items():
-        lines += message_rows(name, type, "admin", needed, allowed)
-    needed = (*ORDER, *(field.tag for field in own))
-    lines += message_rows("NewOrderSingle", "D", "app", needed, (65,) if has_suffix else ())
+        own = tags_of(needs.logon) if type == "A" else ()
+        lines += message_rows(name, type, "admin", (*needed, *own), allowed)
+    allowed = (65,) if needs.has_suffix else ()
+    lines += message_rows("NewOrderSingle", "D", "app", (*ORDER, *tags_of(needs.order)), allowed)
     lines += ["</messages>", "<trailer>", *rows(*TRAILER), "</trailer>", "<components/>"]
-    lines += ["<fields>", *field_rows(own), "</fields>", "</fix>"]
+    lines += ["<fields>", *field_rows(needs.values()), "</fields>", "</fix>"]
     return "\n".join(lines) + "\n"

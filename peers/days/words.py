@@ -1,19 +1,24 @@
-"""Days at an exchange that knows one table of words: orders that are spelled by it are taken, others are refused."""
+"""Days at an exchange that knows one table of words: orders that are spelled by it are taken, others are refused. On some
+of them the table says all that a desk's file can: fields of headers and of Logons too."""
 
 import re
 import time
-from dataclasses import dataclass, replace
+from dataclasses import dataclass, field, replace
 from subprocess import TimeoutExpired
 
 from days.acceptor import Acceptor, Order, frames
 from days.compare import day_faults, end_faults, wanted_end
-from days.days import FILL, HEARTBEAT, MOST_SECONDS, Played, sweeps
+from days.days import FILL, HEARTBEAT, MOST_SECONDS, Played, place_all
 from days.desk import Desk, Late, file_of
-from days.dictionary import Own, dictionary_of
+from days.dictionary import Needs, Own, dictionary_of
 from days.logs import log_faults, truth_faults
+from days.proxy import Proxy, Weather
 
 # SessionRejectReason (373).
 MISSING, NOT_OF_THE_MESSAGE, OUT_OF_RANGE = "1", "2", "5"
+
+# The file of the password, in the folder of a day.
+SECRET = "secret"
 
 
 @dataclass(frozen=True)
@@ -33,11 +38,19 @@ class Table:
     base: int = 10
     # Whether a check of the whole day tells a leg by such a number: where a dialect has it (docs/check.md).
     is_told: bool = True
+    # The fields of each header, and of the Logon, where the password is the last.
+    header: tuple = ()
+    logon: tuple = ()
 
     def leg(self, id):
         """The number of a leg, as the comparison has it."""
         sweep, leg = re.fullmatch(self.id, id).groups()
         return f"S{int(sweep, self.base)}L{int(leg, self.base)}"
+
+    def needs(self):
+        """What an exchange needs that knows this table."""
+        has_suffix = any(suffix for _, suffix in self.symbols)
+        return Needs(order=self.own, header=self.header, logon=self.logon, has_suffix=has_suffix)
 
 
 def in_one_field(separator):
@@ -74,6 +87,15 @@ DIALECT_WITH_A_FIELD = Table(
     symbols=IN_TWO_FIELDS,
     own=(Own(18, "f"), Own(1, "ACC7")),
 )
+ALL_OF_IT = replace(
+    DIGITS,
+    name="a user, and fields of headers",
+    lines=DIGITS.lines + 'header = ["50=TRADER1", "57=ROUTER"]\n'
+    'logon = ["553=DESKUSER"]\n'
+    f'password_file = "{SECRET}"\n',
+    header=(Own(50, "TRADER1"), Own(57, "ROUTER")),
+    logon=(Own(553, "DESKUSER"), Own(554, "tr0ub4dor=3 x")),
+)
 
 
 @dataclass(frozen=True)
@@ -87,6 +109,10 @@ class WordsDay:
     sweeps: int = 40
     most_legs: int = 8
     is_wide: bool = False
+    # What goes wrong, as on a day of `days`.
+    faults: dict = field(default_factory=dict)
+    weather: Weather | None = None
+    stops: int = 0
     seed: int = 1
 
 
@@ -100,7 +126,28 @@ def refusals_of(table, last, tells_without):
     yield WordsDay(f"words, {table.name}: no table", table, tells_without, MISSING)
 
 
+# The days of a table that says all: orders are taken, also over breaks and restarts; and those of another account are
+# refused.
+ALL_OF_IT_DAYS = (
+    WordsDay(f"words, {ALL_OF_IT.name}", ALL_OF_IT),
+    WordsDay(f"words, {ALL_OF_IT.name}: connections are dropped", ALL_OF_IT, sweeps=150, faults={"drop-every": 20}),
+    WordsDay(
+        f"words, {ALL_OF_IT.name}: it is stopped and started again",
+        ALL_OF_IT,
+        sweeps=300,
+        weather=Weather(most_delay=0.005),
+        stops=2,
+    ),
+    WordsDay(
+        f"words, {ALL_OF_IT.name}: another account",
+        ALL_OF_IT,
+        ALL_OF_IT.lines.replace("1=ACC7", "1=ACC8"),
+        OUT_OF_RANGE,
+    ),
+)
+
 WORDS_DAYS = (
+    *ALL_OF_IT_DAYS,
     *(WordsDay(f"words, {table.name}", table) for table in (DIGITS, HEXADECIMAL, DIALECT_WITH_A_FIELD)),
     *refusals_of(DIGITS, ', "8014=Y"', ""),
     *refusals_of(HEXADECIMAL, ', "21=1"', ""),
@@ -151,22 +198,33 @@ def refused_faults(day, folder, venues, placed, orders, status, lines):
         yield f"{len(legs)} orders were to be refused for {day.reason}, and were for {sorted(set(reasons), key=str)}"
 
 
+def write_files(table, folder, venues):
+    """Writes the data dictionary of each venue, and the desk's password, where the table has one. Gives the folder of
+    the dictionaries."""
+    dictionaries = folder / "dictionaries"
+    dictionaries.mkdir()
+    for venue in venues:
+        (dictionaries / f"{venue}.xml").write_text(dictionary_of(table.needs()))
+    if table.logon:
+        secret = folder / SECRET
+        secret.write_text(table.logon[-1].value + "\n")
+        secret.chmod(0o600)
+    return dictionaries
+
+
 def play_words(day, dispatch, acceptor_program, folder):
     """Plays a day in a folder of its own."""
     began = time.monotonic()
     venues = [f"V{number}" for number in range(1, day.venues + 1)]
-    dictionaries = folder / "dictionaries"
-    dictionaries.mkdir()
-    has_suffix = any(suffix for _, suffix in day.table.symbols)
-    for venue in venues:
-        (dictionaries / f"{venue}.xml").write_text(dictionary_of(day.table.own, has_suffix))
-    acceptor = Acceptor(acceptor_program, folder, venues, FILL, {"dictionaries": dictionaries})
+    options = {"dictionaries": write_files(day.table, folder, venues), **day.faults}
+    acceptor = Acceptor(acceptor_program, folder, venues, FILL, options)
+    proxy = Proxy(acceptor.port, day.weather, day.seed) if day.weather else None
     written = day.table.lines if day.written is None else day.written
-    desk = Desk(dispatch, folder, file_of(venues, acceptor.port, HEARTBEAT, written), began + MOST_SECONDS)
+    text = file_of(venues, proxy.port if proxy else acceptor.port, HEARTBEAT, written)
+    desk = Desk(dispatch, folder, text, began + MOST_SECONDS)
     placed, faults = {}, []
     try:
-        for legs, line in sweeps(day, venues):
-            placed[desk.place(line)] = legs
+        place_all(day, desk, venues, acceptor, proxy, placed)
         desk.settle(venues)
         status = desk.close()
         found = refused_faults if day.reason else taken_faults
@@ -179,4 +237,6 @@ def play_words(day, dispatch, acceptor_program, folder):
     finally:
         desk.kill()
         acceptor.kill()
+        if proxy:
+            proxy.end()
     return Played(time.monotonic() - began, sum(map(len, placed.values())), len(acceptor.orders()), faults)
